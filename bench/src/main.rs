@@ -1,0 +1,137 @@
+//! The Rust beside the port: the oracle, its stored answers, and comparison at scale.
+//!
+//! The first part of this file is the crate that the Rust's own files are built in; `shims` stands for the files that are not there.
+
+mod shims;
+
+pub use shims::{bitcoin, keys, script_num_size, Error, MAX_RECURSION_DEPTH};
+pub use shims::keys::{AbsLockTime, ForEachKey, MiniscriptKey, RelLockTime, ToPublicKey};
+pub use shims::miniscript::Miniscript;
+pub use shims::terminal::Terminal;
+pub use shims::threshold::Threshold;
+pub use miniscript::context::SigType;
+
+pub mod hash256 {
+    #[derive(Clone, Copy, PartialEq, Eq, PartialOrd, Ord, Hash, Debug)]
+    pub struct Hash;
+}
+
+pub mod sync {
+    pub use std::sync::Arc;
+}
+
+pub mod prelude {
+    pub use crate::bitcoin;
+    pub use crate::sync;
+    pub use std::collections::{BTreeMap, VecDeque};
+}
+
+pub mod miniscript {
+    pub use crate::Miniscript;
+    pub use context::ScriptContext;
+
+    pub mod decode {
+        pub trait ParseableKey: crate::ToPublicKey {}
+    }
+
+    include!(concat!(env!("OUT_DIR"), "/miniscript.rs"));
+}
+
+pub mod policy {
+    pub use crate::shims::concrete;
+    pub use concrete::Policy as Concrete;
+
+    include!(concat!(env!("OUT_DIR"), "/policy.rs"));
+}
+
+mod answers;
+mod figures;
+mod oracle;
+mod policies;
+mod random;
+mod records;
+mod room;
+
+use std::io::{self, BufWriter, Write};
+use std::process::ExitCode;
+
+use policies::{damaged, damaged_context, Maker};
+use random::Random;
+use records::to_hex;
+
+const USAGE: &str = "usage:
+  bench oracle                         answers the lines `CONTEXT POLICY` of standard input, a line each
+  bench gen SEED COUNT MAXRECORDS      writes COUNT random lines `CONTEXT POLICY`, of 1 to MAXRECORDS (at most 64) records
+  bench damage SEED COUNT MAXRECORDS   writes damaged copies of such lines
+  bench answers                        writes the stored list, answers/compile.txt, anew
+  bench figures                        compares the Rust's costs with document 01's figures
+";
+
+/// The search recurses, so the work is done on a thread with room for it.
+const STACK: usize = 512 << 20;
+
+/// The lines `CONTEXT POLICY` of random policies, damaged or not.
+fn generate(words: [&str; 3], damage: bool) -> Result<bool, String> {
+    let number = |word: &str| word.parse::<u64>().map_err(|_| format!("bench: `{word}` is no number\n{USAGE}"));
+    let (seed, count, records) = (number(words[0])?, number(words[1])?, number(words[2])?);
+    if !(1..=64).contains(&records) {
+        return Err(format!("bench: MAXRECORDS is {records}, not 1 to 64\n"));
+    }
+    let mut random = Random::new(seed);
+    let mut out = BufWriter::new(io::stdout().lock());
+    for _ in 0..count {
+        let (mut context, mut policy) = Maker::new(&mut random).case(records as usize);
+        if damage {
+            context = damaged_context(&mut random, context);
+            policy = damaged(&mut random, &policy);
+        }
+        writeln!(out, "{context} {}", to_hex(&policy)).map_err(|e| format!("bench: {e}\n"))?;
+    }
+    out.flush().map_err(|e| format!("bench: {e}\n"))?;
+    Ok(true)
+}
+
+/// Whether all is well; or what is wrong with the words.
+fn run(words: &[&str]) -> Result<bool, String> {
+    match *words {
+        ["oracle"] => {
+            let bad = oracle::run(io::stdin().lock(), BufWriter::new(io::stdout().lock())).map_err(|e| format!("bench: {e}\n"))?;
+            Ok(bad == 0)
+        }
+        ["gen", seed, count, records] => generate([seed, count, records], false),
+        ["damage", seed, count, records] => generate([seed, count, records], true),
+        ["answers"] => match answers::run(&mut BufWriter::new(io::stdout().lock())) {
+            Ok(()) => Ok(true),
+            Err(message) => {
+                eprintln!("bench: {message}");
+                Ok(false)
+            }
+        },
+        ["figures"] => Ok(figures::run()),
+        _ => Err(USAGE.to_string()),
+    }
+}
+
+fn main() -> ExitCode {
+    oracle::hush_answers();
+    let work = || {
+        let words: Vec<String> = std::env::args().skip(1).collect();
+        let words: Vec<&str> = words.iter().map(String::as_str).collect();
+        match run(&words) {
+            Ok(true) => 0,
+            Ok(false) => 1,
+            Err(message) => {
+                eprint!("{message}");
+                2
+            }
+        }
+    };
+    let thread = std::thread::Builder::new().stack_size(STACK).spawn(work);
+    match thread.map(|t| t.join()) {
+        Ok(Ok(code)) => ExitCode::from(code),
+        _ => {
+            eprintln!("bench: stopped by a fault of its own");
+            ExitCode::from(3)
+        }
+    }
+}

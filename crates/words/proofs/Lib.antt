@@ -1,0 +1,4 @@
+pub mod Packing
+pub mod Stores
+pub mod Bytes
+pub mod Floats

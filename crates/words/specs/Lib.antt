@@ -1,0 +1,4 @@
+pub mod Floats
+pub mod Bytes
+pub mod Answers
+pub mod Memory
