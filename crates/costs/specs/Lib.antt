@@ -1,0 +1,6 @@
+pub mod Names
+pub mod Arithmetic
+pub mod Rules
+pub mod Cost1d
+pub mod Weights
+pub mod Figures

@@ -1,0 +1,5 @@
+pub mod Numbers
+pub mod KindRanges
+pub mod Forms
+pub mod Laws
+pub mod Cases

@@ -1,0 +1,5 @@
+pub mod Numbers
+pub mod Shapes
+pub mod Payloads
+pub mod RecordForm
+pub mod Answers

@@ -1,0 +1,5 @@
+pub mod Inputs
+pub mod Threshold
+pub mod Finite
+pub mod PackLaws
+pub mod SubtypeLaws
