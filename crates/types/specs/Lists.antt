@@ -1,4 +1,5 @@
--- What the rule of a threshold says about a list of children: of all of them, of how many, and the sum over them.
+-- What is said of a list of children, from the loops of `threshold` in types/correctness.rs and types/malleability.rs: of all of them, of how
+-- many, and the sum over them.
 use mathlib.Core.Bool.{Bool, true, false, _&&_}
 use mathlib.Core.List.{List, [], _∷_}
 use Prim.Native.Nat.{ℕ, _+_}

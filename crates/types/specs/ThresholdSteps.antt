@@ -1,4 +1,5 @@
--- A threshold's children taken one after another. TypeRules says what a threshold's type is; proofs/Threshold.antt shows that the two agree.
+-- The steps of the loops of `threshold` in types/correctness.rs and types/malleability.rs, one child after another. TypeRules says what a
+-- threshold's type is; proofs/Threshold.antt shows that the two agree.
 use mathlib.Core.Bool.{Bool, true, false, cond, _&&_}
 use mathlib.Core.List.{List, [], _∷_}
 use Prim.Native.Nat.{ℕ, _+_}

@@ -515,13 +515,14 @@ impl Correctness {
         ensures { λ r. ⌜ r ≡ castAlt self ⌝ }
     {
         let base = self.base;
+        let met = base.is_b();
         let c = Correctness {
             base: Base::W,
             input: Input::Any,
             dissatisfiable: self.dissatisfiable,
             unit: self.unit,
         };
-        ok_if(base.is_b(), c)
+        ok_if(met, c)
     }
 
     // The correctness of s:X.
@@ -530,13 +531,14 @@ impl Correctness {
     {
         let base = self.base;
         let input = self.input;
+        let met = both(base.is_b(), input.is_one());
         let c = Correctness {
             base: Base::W,
             input: Input::Any,
             dissatisfiable: self.dissatisfiable,
             unit: self.unit,
         };
-        ok_if(both(base.is_b(), input.is_one()), c)
+        ok_if(met, c)
     }
 
     // The correctness of c:X.
@@ -545,13 +547,14 @@ impl Correctness {
     {
         let base = self.base;
         let input = self.input;
+        let met = base.is_k();
         let c = Correctness {
             base: Base::B,
             input: input,
             dissatisfiable: self.dissatisfiable,
             unit: true,
         };
-        ok_if(base.is_k(), c)
+        ok_if(met, c)
     }
 
     // The correctness of d:X.
@@ -560,13 +563,14 @@ impl Correctness {
     {
         let base = self.base;
         let input = self.input;
+        let met = both(base.is_v(), input.is_zero());
         let c = Correctness {
             base: Base::B,
             input: Input::OneNonZero,
             dissatisfiable: true,
             unit: false,
         };
-        ok_if(both(base.is_v(), input.is_zero()), c)
+        ok_if(met, c)
     }
 
     // The correctness of v:X.
@@ -575,13 +579,14 @@ impl Correctness {
     {
         let base = self.base;
         let input = self.input;
+        let met = base.is_b();
         let c = Correctness {
             base: Base::V,
             input: input,
             dissatisfiable: false,
             unit: false,
         };
-        ok_if(base.is_b(), c)
+        ok_if(met, c)
     }
 
     // The correctness of j:X.
@@ -590,13 +595,14 @@ impl Correctness {
     {
         let base = self.base;
         let input = self.input;
+        let met = both(input.is_nonzero(), base.is_b());
         let c = Correctness {
             base: Base::B,
             input: input,
             dissatisfiable: true,
             unit: self.unit,
         };
-        ok_if(both(input.is_nonzero(), base.is_b()), c)
+        ok_if(met, c)
     }
 
     // The correctness of n:X.
@@ -605,13 +611,14 @@ impl Correctness {
     {
         let base = self.base;
         let input = self.input;
+        let met = base.is_b();
         let c = Correctness {
             base: Base::B,
             input: input,
             dissatisfiable: self.dissatisfiable,
             unit: true,
         };
-        ok_if(base.is_b(), c)
+        ok_if(met, c)
     }
 
     // The correctness of t:X.
@@ -620,13 +627,14 @@ impl Correctness {
     {
         let base = self.base;
         let input = self.input;
+        let met = base.is_v();
         let c = Correctness {
             base: Base::B,
             input: input,
             dissatisfiable: false,
             unit: true,
         };
-        ok_if(base.is_v(), c)
+        ok_if(met, c)
     }
 
     // The correctness of l:X and of u:X.
@@ -636,13 +644,14 @@ impl Correctness {
         let base = self.base;
         let input = self.input;
         let taken = input.one_if_zero();
+        let met = base.is_b();
         let c = Correctness {
             base: Base::B,
             input: taken,
             dissatisfiable: true,
             unit: self.unit,
         };
-        ok_if(base.is_b(), c)
+        ok_if(met, c)
     }
 
     // Whether this is a B with d and u.
@@ -663,13 +672,14 @@ impl Correctness {
         let right_input = right.input;
         let input = and_input(left_input, right_input);
         let d = both(left.dissatisfiable, right.dissatisfiable);
+        let met = both(left_base.is_b(), right_base.is_w());
         let c = Correctness {
             base: Base::B,
             input: input,
             dissatisfiable: d,
             unit: true,
         };
-        ok_if(both(left_base.is_b(), right_base.is_w()), c)
+        ok_if(met, c)
     }
 
     // The correctness of and_v.
@@ -681,13 +691,14 @@ impl Correctness {
         let left_input = left.input;
         let right_input = right.input;
         let input = and_input(left_input, right_input);
+        let met = both(left_base.is_v(), not(right_base.is_w()));
         let c = Correctness {
             base: right_base,
             input: input,
             dissatisfiable: false,
             unit: right.unit,
         };
-        ok_if(both(left_base.is_v(), not(right_base.is_w())), c)
+        ok_if(met, c)
     }
 
     // The correctness of or_b.
@@ -700,13 +711,14 @@ impl Correctness {
         let right_input = right.input;
         let d = both(left.dissatisfiable, right.dissatisfiable);
         let input = or_b_input(left_input, right_input);
+        let met = both(d, both(left_base.is_b(), right_base.is_w()));
         let c = Correctness {
             base: Base::B,
             input: input,
             dissatisfiable: true,
             unit: true,
         };
-        ok_if(both(d, both(left_base.is_b(), right_base.is_w())), c)
+        ok_if(met, c)
     }
 
     // The correctness of or_d.
@@ -717,13 +729,14 @@ impl Correctness {
         let left_input = left.input;
         let right_input = right.input;
         let input = or_d_input(left_input, right_input);
+        let met = both(left.is_bdu(), right_base.is_b());
         let c = Correctness {
             base: Base::B,
             input: input,
             dissatisfiable: right.dissatisfiable,
             unit: right.unit,
         };
-        ok_if(both(left.is_bdu(), right_base.is_b()), c)
+        ok_if(met, c)
     }
 
     // The correctness of or_c.
@@ -734,13 +747,14 @@ impl Correctness {
         let left_input = left.input;
         let right_input = right.input;
         let input = or_d_input(left_input, right_input);
+        let met = both(left.is_bdu(), right_base.is_v());
         let c = Correctness {
             base: Base::V,
             input: input,
             dissatisfiable: false,
             unit: false,
         };
-        ok_if(both(left.is_bdu(), right_base.is_v()), c)
+        ok_if(met, c)
     }
 
     // The correctness of or_i.
@@ -754,13 +768,14 @@ impl Correctness {
         let input = or_i_input(left_input, right_input);
         let d = either(left.dissatisfiable, right.dissatisfiable);
         let u = both(left.unit, right.unit);
+        let met = left_base.same_bkv(right_base);
         let c = Correctness {
             base: left_base,
             input: input,
             dissatisfiable: d,
             unit: u,
         };
-        ok_if(left_base.same_bkv(right_base), c)
+        ok_if(met, c)
     }
 
     // The correctness of andor.
@@ -774,13 +789,14 @@ impl Correctness {
         let c_input = c.input;
         let input = and_or_input(a_input, b_input, c_input);
         let u = both(b.unit, c.unit);
+        let met = both(a.is_bdu(), b_base.same_bkv(c_base));
         let whole = Correctness {
             base: b_base,
             input: input,
             dissatisfiable: c.dissatisfiable,
             unit: u,
         };
-        ok_if(both(a.is_bdu(), b_base.same_bkv(c_base)), whole)
+        ok_if(met, whole)
     }
 
     // Whether this has u and d, as each child of a threshold must.
@@ -820,12 +836,13 @@ impl CorrectnessSoFar {
         ensures { λ r. ⌜ r ≡ corrResult self ⌝ }
     {
         let input = self.input;
+        let met = self.fits;
         let c = Correctness {
             base: Base::B,
             input: input,
             dissatisfiable: true,
             unit: true,
         };
-        ok_if(self.fits, c)
+        ok_if(met, c)
     }
 }

@@ -1,0 +1,21 @@
+use mathlib.Core.Path.{refl}
+use Rattle.figures.specs.Rules.{castZeronotequal}
+use borrow.Author.Needs.{needs}
+use Rattle.figures.proofs.ExtData.cast_zeronotequal.Statement.{statement}
+use Rattle.figures.proofs.ExtData.cast_zeronotequal.Tie as tie
+
+add-t4 : tie.Need-add-t4
+add-t4 c = search needs
+
+add-t5 : tie.Need-add-t5
+add-t5 c = search needs
+
+add-t6 : tie.Need-add-t6
+add-t6 c = search needs
+
+returns : tie.Need-returns
+unfolding castZeronotequal
+returns c = refl
+
+pub cast-zeronotequal-spec : {M : Type 1} → statement M
+cast-zeronotequal-spec = tie.close (tie.spec add-t4 add-t5 add-t6 returns)

@@ -1,0 +1,3 @@
+pub mod Rules
+pub mod Bounds
+pub mod Validity

@@ -1,0 +1,3 @@
+pub mod Kids
+pub mod Kept
+pub mod KeptThreshold
