@@ -50,6 +50,17 @@ fn counted(text: &str) -> String {
     patched(&text, store, &format!("        crate::room::store(policy_cache.len());\n{store}"))
 }
 
+/// Links the port's library where CLASPWILLOW_LIB names one.
+fn link_port() {
+    println!("cargo:rerun-if-env-changed=CLASPWILLOW_LIB");
+    println!("cargo:rustc-check-cfg=cfg(port)");
+    let Some(library) = env::var_os("CLASPWILLOW_LIB").map(PathBuf::from) else { return };
+    let Ok(library) = library.canonicalize() else { stop(&format!("CLASPWILLOW_LIB: there is no {}", library.display())) };
+    println!("cargo:rustc-cfg=port");
+    println!("cargo:rerun-if-changed={}", library.display());
+    println!("cargo:rustc-link-arg={}", library.display());
+}
+
 fn main() {
     let bench = PathBuf::from(env::var_os("CARGO_MANIFEST_DIR").unwrap());
     let out = PathBuf::from(env::var_os("OUT_DIR").unwrap());
@@ -84,6 +95,7 @@ fn main() {
         .concat(),
     );
 
+    link_port();
     println!("cargo:rerun-if-env-changed=MINISCRIPT_SRC");
     println!("cargo:rerun-if-changed=build.rs");
     println!("cargo:rerun-if-changed=src/accessor.rs");

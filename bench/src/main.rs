@@ -45,12 +45,18 @@ pub mod policy {
 }
 
 mod answers;
+#[cfg(port)]
+mod check;
 mod figures;
 mod oracle;
 mod policies;
+#[cfg(port)]
+mod port;
 mod random;
 mod records;
 mod room;
+#[cfg(port)]
+mod trees;
 
 use std::io::{self, BufWriter, Write};
 use std::process::ExitCode;
@@ -65,22 +71,29 @@ const USAGE: &str = "usage:
   bench damage SEED COUNT MAXRECORDS   writes damaged copies of such lines
   bench answers                        writes the stored list, answers/compile.txt, anew
   bench figures                        compares the Rust's costs with document 01's figures
+  bench check SEED COUNT MAXRECORDS    runs COUNT random trees of each flavour and context through the Rust's type rules and the port
 ";
 
 /// The search recurses, so the work is done on a thread with room for it.
 const STACK: usize = 512 << 20;
 
-/// The lines `CONTEXT POLICY` of random policies, damaged or not.
-fn generate(words: [&str; 3], damage: bool) -> Result<bool, String> {
+/// SEED, COUNT and MAXRECORDS, the last of them at most `most`.
+fn numbers(words: [&str; 3], most: u64) -> Result<(u64, u64, usize), String> {
     let number = |word: &str| word.parse::<u64>().map_err(|_| format!("bench: `{word}` is no number\n{USAGE}"));
     let (seed, count, records) = (number(words[0])?, number(words[1])?, number(words[2])?);
-    if !(1..=64).contains(&records) {
-        return Err(format!("bench: MAXRECORDS is {records}, not 1 to 64\n"));
+    if !(1..=most).contains(&records) {
+        return Err(format!("bench: MAXRECORDS is {records}, not 1 to {most}\n"));
     }
+    Ok((seed, count, records as usize))
+}
+
+/// The lines `CONTEXT POLICY` of random policies, damaged or not.
+fn generate(words: [&str; 3], damage: bool) -> Result<bool, String> {
+    let (seed, count, records) = numbers(words, 64)?;
     let mut random = Random::new(seed);
     let mut out = BufWriter::new(io::stdout().lock());
     for _ in 0..count {
-        let (mut context, mut policy) = Maker::new(&mut random).case(records as usize);
+        let (mut context, mut policy) = Maker::new(&mut random).case(records);
         if damage {
             context = damaged_context(&mut random, context);
             policy = damaged(&mut random, &policy);
@@ -89,6 +102,17 @@ fn generate(words: [&str; 3], damage: bool) -> Result<bool, String> {
     }
     out.flush().map_err(|e| format!("bench: {e}\n"))?;
     Ok(true)
+}
+
+#[cfg(port)]
+fn check(words: [&str; 3]) -> Result<bool, String> {
+    let (seed, count, records) = numbers(words, 4_096)?;
+    Ok(check::run(seed, count, records))
+}
+
+#[cfg(not(port))]
+fn check(_: [&str; 3]) -> Result<bool, String> {
+    Err("bench: built without the port; CLASPWILLOW_LIB names its library when bench is built (docs/BENCH.md)\n".to_string())
 }
 
 /// Whether all is well; or what is wrong with the words.
@@ -107,6 +131,7 @@ fn run(words: &[&str]) -> Result<bool, String> {
                 Ok(false)
             }
         },
+        ["check", seed, count, records] => check([seed, count, records]),
         ["figures"] => Ok(figures::run()),
         _ => Err(USAGE.to_string()),
     }

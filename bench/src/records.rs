@@ -13,15 +13,15 @@ pub const OUTPUT_TOO_SMALL: u32 = 13;
 
 const POLICY_RECORDS: usize = 64;
 const POLICY_DEPTH: usize = 16;
-const TREE_RECORDS: usize = 4_096;
-const LOCK_MAX: u32 = 2_147_483_647;
-const THRESH_MAX: usize = 16;
+pub const TREE_RECORDS: usize = 4_096;
+pub const LOCK_MAX: u32 = 2_147_483_647;
+pub const THRESH_MAX: usize = 16;
 
-fn u16_at(bytes: &[u8], at: usize) -> usize {
+pub fn u16_at(bytes: &[u8], at: usize) -> usize {
     usize::from(u16::from_le_bytes([bytes[at], bytes[at + 1]]))
 }
 
-fn u32_at(bytes: &[u8], at: usize) -> u32 {
+pub fn u32_at(bytes: &[u8], at: usize) -> u32 {
     u32::from_le_bytes([bytes[at], bytes[at + 1], bytes[at + 2], bytes[at + 3]])
 }
 

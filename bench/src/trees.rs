@@ -1,0 +1,377 @@
+//! Fragment trees: the tree check as the Rust's own type rules have it, and random trees, well-typed, ill-typed and damaged.
+
+use crate::keys::Key;
+use crate::miniscript::context::{Segwitv0, Tap};
+use crate::miniscript::types::{Base, Dissat, ExtData, Input, Type};
+use crate::miniscript::ScriptContext;
+use crate::random::Random;
+use crate::records::{u16_at, u16s, u32_at, Writer, LOCK_MAX, THRESH_MAX, TREE_RECORDS};
+use crate::sync::Arc;
+use crate::{AbsLockTime, Miniscript, RelLockTime, Terminal, Threshold};
+
+const BAD_CONTEXT: u32 = 1;
+const BAD_WORK: u32 = 2;
+const BAD_TREE: u32 = 14;
+const ILL_TYPED: u32 = 15;
+const TREE_TOO_LARGE: u32 = 16;
+
+/// The words of work memory that the check asks for.
+pub const CHECK_WORK: usize = 4_096;
+
+/// The number that the check gives, and the root's packed type (0 on a refusal).
+pub fn check(context: u32, tree: &[u8], work: usize) -> (u32, u32) {
+    let typed = match (context, work) {
+        (0 | 1, CHECK_WORK) if context == 0 => read_tree::<Segwitv0>(tree),
+        (0 | 1, CHECK_WORK) => read_tree::<Tap>(tree),
+        (0 | 1, _) => Err(BAD_WORK),
+        _ => Err(BAD_CONTEXT),
+    };
+    match typed {
+        Ok(ty) => (0, packed(&ty)),
+        Err(number) => (number, 0),
+    }
+}
+
+/// A type in its derived order, as docs/ENTRIES.md packs it.
+pub fn packed(ty: &Type) -> u32 {
+    let base = match ty.corr.base {
+        Base::B => 0,
+        Base::K => 1,
+        Base::V => 2,
+        Base::W => 3,
+    };
+    let input = match ty.corr.input {
+        Input::Zero => 0,
+        Input::One => 1,
+        Input::Any => 2,
+        Input::OneNonZero => 3,
+        Input::AnyNonZero => 4,
+    };
+    let dissat = match ty.mall.dissat {
+        Dissat::None => 0,
+        Dissat::Unique => 1,
+        Dissat::Unknown => 2,
+    };
+    let number = (base * 5 + input) * 2 + u32::from(ty.corr.dissatisfiable);
+    let number = (number * 2 + u32::from(ty.corr.unit)) * 3 + dissat;
+    (number * 2 + u32::from(ty.mall.safe)) * 2 + u32::from(ty.mall.non_malleable)
+}
+
+type Child<Ctx> = Arc<Miniscript<Key, Ctx>>;
+
+/// The type of the tree that the bytes write: per record 16, 14, 15, then unused records.
+fn read_tree<Ctx: ScriptContext>(bytes: &[u8]) -> Result<Type, u32> {
+    let mut slots: Vec<Option<Child<Ctx>>> = Vec::new();
+    let mut at = 0;
+    while at < bytes.len() {
+        if slots.len() == TREE_RECORDS {
+            return Err(TREE_TOO_LARGE);
+        }
+        let rest = &bytes[at..];
+        if rest.len() < 4 || u16_at(rest, 0) < 4 || u16_at(rest, 0) > rest.len() {
+            return Err(BAD_TREE);
+        }
+        let length = u16_at(rest, 0);
+        let node = read_node::<Ctx>(u16_at(rest, 2), &rest[4..length], &mut slots)?;
+        let ty = typed(&node)?;
+        slots.push(Some(Arc::new(Miniscript::from_components_unchecked(node, ty, ExtData::TRUE))));
+        at += length;
+    }
+    match slots.pop() {
+        Some(Some(root)) if slots.iter().all(Option::is_none) => Ok(root.ty),
+        _ => Err(BAD_TREE),
+    }
+}
+
+/// The Rust's type of a fragment, in the one context that Multi and MultiA have.
+fn typed<Ctx: ScriptContext>(node: &Terminal<Key, Ctx>) -> Result<Type, u32> {
+    let schnorr = matches!(Ctx::sig_type(), crate::SigType::Schnorr);
+    match node {
+        Terminal::Multi(_) if schnorr => Err(ILL_TYPED),
+        Terminal::MultiA(_) if !schnorr => Err(ILL_TYPED),
+        _ => Type::type_check(node).map_err(|_| ILL_TYPED),
+    }
+}
+
+/// One record's fragment over the trees that it takes.
+fn read_node<Ctx: ScriptContext>(kind: usize, payload: &[u8], slots: &mut [Option<Child<Ctx>>]) -> Result<Terminal<Key, Ctx>, u32> {
+    let form = |right: bool| if right { Ok(()) } else { Err(BAD_TREE) };
+    let mut children = |from: usize, n: usize| -> Result<Vec<Child<Ctx>>, u32> {
+        let take = |i| slots.get_mut(u16_at(payload, from + 2 * i)).and_then(Option::take).ok_or(BAD_TREE);
+        (0..n).map(take).collect()
+    };
+    let node = match kind {
+        32 | 33 => {
+            form(payload.is_empty())?;
+            if kind == 32 {
+                Terminal::False
+            } else {
+                Terminal::True
+            }
+        }
+        34..=41 => {
+            form(payload.len() == 4)?;
+            let number = u32_at(payload, 0);
+            form(!(36..=37).contains(&kind) || (1..=LOCK_MAX).contains(&number))?;
+            match kind {
+                34 => Terminal::PkK(Key(number)),
+                35 => Terminal::PkH(Key(number)),
+                36 => Terminal::After(AbsLockTime(number)),
+                37 => Terminal::Older(RelLockTime(number)),
+                38 => Terminal::Sha256(number),
+                39 => Terminal::Hash256(number),
+                40 => Terminal::Ripemd160(number),
+                _ => Terminal::Hash160(number),
+            }
+        }
+        42..=55 => {
+            let n = arity(kind as u16);
+            form(payload.len() == 2 * n)?;
+            let mut list = children(0, n)?.into_iter();
+            let mut next = || list.next().ok_or(BAD_TREE);
+            match kind {
+                42 => Terminal::Alt(next()?),
+                43 => Terminal::Swap(next()?),
+                44 => Terminal::Check(next()?),
+                45 => Terminal::DupIf(next()?),
+                46 => Terminal::Verify(next()?),
+                47 => Terminal::NonZero(next()?),
+                48 => Terminal::ZeroNotEqual(next()?),
+                49 => Terminal::AndB(next()?, next()?),
+                50 => Terminal::AndV(next()?, next()?),
+                51 => Terminal::OrB(next()?, next()?),
+                52 => Terminal::OrD(next()?, next()?),
+                53 => Terminal::OrC(next()?, next()?),
+                54 => Terminal::OrI(next()?, next()?),
+                _ => Terminal::AndOr(next()?, next()?, next()?),
+            }
+        }
+        56..=58 => {
+            form(payload.len() >= 4)?;
+            let (k, n) = (u16_at(payload, 0), u16_at(payload, 2));
+            form(payload.len() == 4 + n * if kind == 56 { 2 } else { 4 })?;
+            form(1 <= k && k <= n && n <= THRESH_MAX)?;
+            let keys = || (0..n).map(|i| Key(u32_at(payload, 4 + 4 * i))).collect();
+            match kind {
+                56 => Terminal::Thresh(Threshold::new(k, children(4, n)?).map_err(|()| BAD_TREE)?),
+                57 => Terminal::Multi(Threshold::new(k, keys()).map_err(|()| BAD_TREE)?),
+                _ => Terminal::MultiA(Threshold::new(k, keys()).map_err(|()| BAD_TREE)?),
+            }
+        }
+        _ => return Err(BAD_TREE),
+    };
+    Ok(node)
+}
+
+/// The children of a wrapper, a pair or a triple.
+fn arity(kind: u16) -> usize {
+    match kind {
+        42..=48 => 1,
+        49..=54 => 2,
+        _ => 3,
+    }
+}
+
+/// A tree before it is written: its kind, its numbers and its children.
+#[derive(Clone)]
+struct Tree {
+    kind: u16,
+    /// What stands in the payload before the children.
+    numbers: Vec<u8>,
+    children: Vec<Tree>,
+    records: usize,
+}
+
+impl Tree {
+    fn new(kind: u16, numbers: Vec<u8>, children: Vec<Tree>) -> Self {
+        let records = 1 + children.iter().map(|c| c.records).sum::<usize>();
+        Tree { kind, numbers, children, records }
+    }
+
+    fn write(&self, out: &mut Writer) -> u16 {
+        let numbers: Vec<u16> = self.children.iter().map(|c| c.write(out)).collect();
+        out.record(self.kind, &[self.numbers.clone(), u16s(&numbers)].concat())
+    }
+
+    fn bytes(&self) -> Vec<u8> {
+        let mut out = Writer::default();
+        self.write(&mut out);
+        out.bytes
+    }
+
+    /// The n-th part in pre-order.
+    fn part(&mut self, n: usize) -> &mut Tree {
+        if n == 0 {
+            return self;
+        }
+        let mut n = n - 1;
+        for child in &mut self.children {
+            if n < child.records {
+                return child.part(n);
+            }
+            n -= child.records;
+        }
+        unreachable!("a part of the tree is asked for")
+    }
+}
+
+fn leaf(random: &mut Random, context: u32) -> Tree {
+    let kind = random.between(32, 43) as u16;
+    let number = |n: usize| Tree::new(kind, (n as u32).to_le_bytes().to_vec(), vec![]);
+    match kind {
+        32 | 33 => Tree::new(kind, vec![], vec![]),
+        36 | 37 => {
+            let any = 1 + random.below(LOCK_MAX as usize);
+            number(*random.pick(&[1, LOCK_MAX as usize, 500_000_000, any]))
+        }
+        34..=41 => number(random.below(1 << 32)),
+        _ => {
+            let n = random.between(1, 16);
+            let mut numbers = u16s(&[random.between(1, n) as u16, n as u16]);
+            numbers.extend((0..n).flat_map(|i| (i as u32).to_le_bytes()));
+            // Now and then the one that belongs to the other context.
+            let other = u32::from(random.once_in(40));
+            Tree::new(57 + ((context + other) % 2) as u16, numbers, vec![])
+        }
+    }
+}
+
+/// A fragment over some of the trees made so far, of at most `records` records.
+fn above(random: &mut Random, made: &[Tree], records: usize) -> Option<Tree> {
+    let kind = random.between(42, 56) as u16;
+    let n = if kind == 56 { random.between(1, 5) } else { arity(kind) };
+    let children: Vec<Tree> = (0..n).map(|_| random.pick(made).clone()).collect();
+    let numbers = if kind == 56 { u16s(&[random.between(1, n) as u16, n as u16]) } else { vec![] };
+    let tree = Tree::new(kind, numbers, children);
+    (tree.records <= records).then_some(tree)
+}
+
+/// A random well-typed tree, and others that were made on the way.
+fn well_typed(random: &mut Random, context: u32, records: usize) -> (Tree, Vec<Tree>) {
+    let mut made: Vec<Tree> = (0..8).map(|_| leaf(random, context)).filter(|t| typed_in(context, t)).collect();
+    made.push(Tree::new(44, vec![], vec![Tree::new(34, vec![7, 0, 0, 0], vec![])]));
+    let rounds = random.between(1, 60);
+    let mut last = random.below(made.len());
+    for _ in 0..rounds {
+        if let Some(tree) = above(random, &made, records).filter(|t| typed_in(context, t)) {
+            made.push(tree);
+            last = made.len() - 1;
+        }
+    }
+    (made[last].clone(), made)
+}
+
+fn typed_in(context: u32, tree: &Tree) -> bool {
+    check(context, &tree.bytes(), CHECK_WORK).0 == 0
+}
+
+/// A tree in which one part is of another kind, or another tree.
+fn ill_typed(random: &mut Random, context: u32, records: usize) -> Tree {
+    let (mut tree, made) = well_typed(random, context, records);
+    let at = random.below(tree.records);
+    let other = random.pick(&made).clone();
+    let part = tree.part(at);
+    match part.kind {
+        42..=48 if random.once_in(2) => part.kind = random.between(42, 48) as u16,
+        49..=54 if random.once_in(2) => part.kind = random.between(49, 54) as u16,
+        49..=56 if random.once_in(2) => part.children.reverse(),
+        57..=58 => part.kind = 115 - part.kind,
+        _ => *part = other,
+    }
+    // The counts of records above the part are made anew.
+    fn recount(tree: &mut Tree) -> usize {
+        tree.records = 1 + tree.children.iter_mut().map(recount).sum::<usize>();
+        tree.records
+    }
+    recount(&mut tree);
+    tree
+}
+
+/// Where the records begin, and their kinds.
+fn places(bytes: &[u8]) -> Vec<(usize, usize)> {
+    let mut places = Vec::new();
+    let mut at = 0;
+    while at < bytes.len() {
+        places.push((at, u16_at(bytes, at + 2)));
+        at += u16_at(bytes, at);
+    }
+    places
+}
+
+/// A damaged copy of a tree's bytes.
+fn damaged(random: &mut Random, bytes: &[u8]) -> Vec<u8> {
+    let places = places(bytes);
+    let mut out = bytes.to_vec();
+    let number = random.below(places.len());
+    let (at, kind) = places[number];
+    let first_child = at + if kind == 56 { 8 } else { 4 };
+    match random.below(12) {
+        0 => out.truncate(random.below(bytes.len() + 1)),
+        1 => out[at] = out[at].wrapping_add(*random.pick(&[1, 2, 4, 252, 254, 255])),
+        2 => out[at + 1] = 1 + random.below(255) as u8,
+        3 => out[at + 2] = *random.pick(&[0, 1, 3, 12, 31, 59, 84, 255]),
+        4 => out[at + 3] = 1 + random.below(255) as u8,
+        5 if (36..=37).contains(&kind) => {
+            let lock: u32 = *random.pick(&[0, LOCK_MAX + 1, u32::MAX]);
+            out[at + 4..at + 8].copy_from_slice(&lock.to_le_bytes());
+        }
+        6 if kind >= 56 => out[at + 4] = *random.pick(&[0, out[at + 6].wrapping_add(1), 17, 255]),
+        7 if kind >= 56 => out[at + 6] = *random.pick(&[0, 17, out[at + 6].wrapping_add(1), out[at + 6] - 1]),
+        8 if (42..=56).contains(&kind) => {
+            // A child taken twice, or one that is not smaller.
+            let children = if kind == 56 { usize::from(out[at + 6]) } else { arity(kind as u16) };
+            let child = first_child + 2 * random.below(children);
+            let earlier = random.below(number + 1) as u16;
+            let wrong = *random.pick(&[number as u16, number as u16 + 1, 0, 65_535, earlier]);
+            out[child..child + 2].copy_from_slice(&wrong.to_le_bytes());
+        }
+        9 => out = [&[4, 0, 33, 0], bytes].concat(),
+        10 => {
+            // Records that nothing takes, at times to the 4,097th and past it.
+            let more = if random.once_in(4) { random.between(TREE_RECORDS - 3, TREE_RECORDS + 3) } else { random.between(1, 9) };
+            out.extend([4, 0, 33, 0].repeat(more));
+        }
+        _ if !out.is_empty() => {
+            let at = random.below(out.len());
+            out[at] ^= 1 << random.below(8);
+        }
+        _ => {}
+    }
+    out
+}
+
+/// A tree that is one chain of wrappers, of exactly this many records.
+fn long(records: usize) -> Vec<u8> {
+    let mut out = Writer::default();
+    let mut child = out.record(33, &[]);
+    for _ in 1..records {
+        child = out.record(48, &u16s(&[child]));
+    }
+    out.bytes
+}
+
+/// What a random tree is meant to be.
+pub const FLAVOURS: [&str; 3] = ["well-typed", "ill-typed", "damaged"];
+
+/// The bytes of a random tree of one flavour.
+pub fn case(random: &mut Random, context: u32, flavour: usize, records: usize) -> Vec<u8> {
+    if random.once_in(400) {
+        return long(TREE_RECORDS - 2 + random.below(5));
+    }
+    match flavour {
+        0 => well_typed(random, context, records).0.bytes(),
+        1 => {
+            let mut bytes = ill_typed(random, context, records).bytes();
+            for _ in 0..8 {
+                if check(context, &bytes, CHECK_WORK).0 != ILL_TYPED {
+                    bytes = ill_typed(random, context, records).bytes();
+                }
+            }
+            bytes
+        }
+        _ => {
+            let bytes = well_typed(random, context, records).0.bytes();
+            damaged(random, &bytes)
+        }
+    }
+}

@@ -1,0 +1,22 @@
+use borrow.Author.Needs.{needs}
+use Rattle.candidates.proofs.Candidate.hash256.Statement.{statement}
+use Rattle.candidates.proofs.Candidate.hash256.Tie as tie
+
+hash-requires : tie.Need-hash-requires
+hash-requires c κs = search needs
+
+hash256-requires : tie.Need-hash256-requires
+hash256-requires c κs = search needs
+
+hash-requires-2 : tie.Need-hash-requires-2
+hash-requires-2 c κs = search needs
+
+over-requires : tie.Need-over-requires
+over-requires c κs = search needs
+
+returns : tie.Need-returns
+returns c = simp (c .over .ensures, c .before .before .before .hash .ensures, c .before .before .hash256 .ensures, c .before .hash2 .ensures)
+
+pub hash256-spec : {M : Type 1} → statement M
+hash256-spec =
+    tie.close (tie.spec hash-requires hash256-requires hash-requires-2 over-requires returns)

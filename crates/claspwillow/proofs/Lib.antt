@@ -1,0 +1,2 @@
+-- Why the entries keep their promises.
+pub mod Determined

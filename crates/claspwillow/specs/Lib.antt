@@ -1,0 +1,2 @@
+-- What a user of the entries must believe.
+pub mod Promises

@@ -1,0 +1,199 @@
+-- A policy is made of its parts, and what is made of a kind has these parts. Assumes nothing.
+use mathlib.Core.Path.{_≡_, refl, sym, _∙_, ap, subst}
+use mathlib.Core.Bool.{Bool, true, false, cond}
+use mathlib.Core.List.{List, [], _∷_}
+use Prim.Native.Nat.{ℕ, zero, suc, _+_, _<_, _≤_}
+use native.Mathlib.Omega.{arith}
+use borrow.Author.Tests.{ne-eqb, eqb-true}
+use lib.Dec.{eqb}
+use lib.ListN.{length}
+use Rattle.policies.specs.Policy.{Policy, Policies, end, _▹_, toList, fromList}
+use Rattle.terms.specs.Leaves.{After, Older, Sha256, Hash256, Ripemd160, Hash160}
+use Rattle.policies.specs.Policy.{Unsatisfiable, Trivial, Key, Lock, Hash, And, Or, Thresh}
+use Rattle.policies.specs.Forms.{made, nth, kindOf, numberOf, kOf, leftWeightOf, rightWeightOf, childrenOf}
+use Rattle.policies.specs.Heads.{headOf}
+use Rattle.policies.specs.Array.{arity}
+use Rattle.policies.specs.declared.Head.{Head}
+use Rattle.policies.proofs.Ranges.{Each, each}
+
+pub to-from : (xs : List Policy) → toList (fromList xs) ≡ xs
+unfolding toList fromList
+to-from [] = refl
+to-from (x ∷ xs) = ap (λ (l : List Policy). x ∷ l) (to-from xs)
+
+pub from-to : (xs : Policies) → fromList (toList xs) ≡ xs
+unfolding toList fromList
+from-to end = refl
+from-to (x ▹ xs) = ap (λ (l : Policies). x ▹ l) (from-to xs)
+
+-- ---- a policy is made of its parts
+
+pub made-again : (p : Policy) → made (kindOf p) (numberOf p) (kOf p) (leftWeightOf p) (rightWeightOf p) (childrenOf p) ≡ p
+unfolding made kindOf numberOf kOf leftWeightOf rightWeightOf childrenOf
+made-again Unsatisfiable = refl
+made-again Trivial = refl
+made-again (Key n) = refl
+made-again (Lock After n) = refl
+made-again (Lock Older n) = refl
+made-again (Hash Sha256 n) = refl
+made-again (Hash Hash256 n) = refl
+made-again (Hash Ripemd160 n) = refl
+made-again (Hash Hash160 n) = refl
+made-again (And l r) = refl
+made-again (Or l r lw rw) = refl
+made-again (Thresh k xs) = ap (Thresh k) (from-to xs)
+
+rebuilt : Head → List Policy → Policy
+rebuilt h cs = made (h .kind) (h .number) (h .k) (h .«left_weight») (h .«right_weight») cs
+
+-- two policies are equal where their heads and their children are
+pub same-parts : (p q : Policy) → headOf p ≡ headOf q → childrenOf p ≡ childrenOf q → p ≡ q
+unfolding rebuilt made
+same-parts p q h e = sym (made-again p) ∙ ap (λ (x : Head). rebuilt x (childrenOf p)) h ∙ ap (λ (cs : List Policy). rebuilt (headOf q) cs) e
+    ∙ made-again q
+
+-- ---- the children of what is made
+
+all-two : (cs : List Policy) → length cs ≡ 2 → nth cs 0 ∷ nth cs 1 ∷ [] ≡ cs
+all-two [] e = absurd (omega arith)
+all-two (x ∷ []) e = absurd (omega arith)
+all-two (x ∷ y ∷ []) e = refl
+all-two (x ∷ y ∷ z ∷ cs) e = absurd (omega arith)
+
+nothing-else : (cs : List Policy) → length cs ≡ 0 → [] ≡ cs
+nothing-else [] e = refl
+nothing-else (x ∷ cs) e = absurd (omega arith)
+
+leaf-or : (b : Bool) (p q : Policy) {cs : List Policy} → ([] ≡ cs → childrenOf p ≡ cs) → ([] ≡ cs → childrenOf q ≡ cs) → [] ≡ cs
+    → childrenOf (cond b p q) ≡ cs
+leaf-or true p q f g e = f e
+leaf-or false p q f g e = g e
+
+-- what is made with as many children as its kind has, has these children
+pub children-made : (kind number k n left right : ℕ) (cs : List Policy) → length cs ≡ arity kind n
+    → childrenOf (made kind number k left right cs) ≡ cs
+unfolding made childrenOf
+children-made kind number k n left right cs l = by-kind (eqb kind 10) (eqb kind 11) (eqb kind 12) refl refl refl
+  where
+    by-kind : (and or thresh : Bool) → eqb kind 10 ≡ and → eqb kind 11 ≡ or → eqb kind 12 ≡ thresh
+        → childrenOf (made kind number k left right cs) ≡ cs
+    by-kind true or thresh a o t =
+        let e : kind ≡ 10 = eqb-true kind 10 a in
+        rw e (all-two cs (l ∙ rw e))
+    by-kind false true thresh a o t =
+        let e : kind ≡ 11 = eqb-true kind 11 o in
+        rw e (all-two cs (l ∙ rw e))
+    by-kind false false true a o t =
+        let e : kind ≡ 12 = eqb-true kind 12 t in
+        rw e (to-from cs)
+    by-kind false false false a o t =
+        let none : [] ≡ cs = nothing-else cs (l ∙ rw (a, o, t)) in
+        rw (a, o, t) (
+        leaf-or (eqb kind 2) Trivial _ (λ e. e) (
+        leaf-or (eqb kind 3) (Key number) _ (λ e. e) (
+        leaf-or (eqb kind 4) (Lock After number) _ (λ e. e) (
+        leaf-or (eqb kind 5) (Lock Older number) _ (λ e. e) (
+        leaf-or (eqb kind 6) (Hash Sha256 number) _ (λ e. e) (
+        leaf-or (eqb kind 7) (Hash Hash256 number) _ (λ e. e) (
+        leaf-or (eqb kind 8) (Hash Ripemd160 number) _ (λ e. e) (
+        leaf-or (eqb kind 9) (Hash Hash160 number) Unsatisfiable (λ e. e) (λ e. e)))))))) none)
+
+-- ---- only the kind 12 makes a Thresh
+
+else-kind : (b : Bool) (p q : Policy) → (kindOf p ≡ 12 → ⊥) → (kindOf q ≡ 12 → ⊥) → kindOf (cond b p q) ≡ 12 → ⊥
+else-kind true p q f g e = f e
+else-kind false p q f g e = g e
+
+pub thresh-made : (kind number k left right : ℕ) (cs : List Policy) → kindOf (made kind number k left right cs) ≡ 12 → kind ≡ 12
+unfolding made kindOf
+thresh-made kind number k left right cs e = by-test (eqb kind 12) refl
+  where
+    not-12 : {n : ℕ} → n < 12 → n ≡ 12 → ⊥
+    not-12 h e = omega arith
+
+    by-test : (t : Bool) → eqb kind 12 ≡ t → kind ≡ 12
+    by-test true q = eqb-true kind 12 q
+    by-test false q =
+        absurd
+        (else-kind (eqb kind 2) Trivial _ (not-12 (omega arith))
+        (else-kind (eqb kind 3) (Key number) _ (not-12 (omega arith))
+        (else-kind (eqb kind 4) (Lock After number) _ (not-12 (omega arith))
+        (else-kind (eqb kind 5) (Lock Older number) _ (not-12 (omega arith))
+        (else-kind (eqb kind 6) (Hash Sha256 number) _ (not-12 (omega arith))
+        (else-kind (eqb kind 7) (Hash Hash256 number) _ (not-12 (omega arith))
+        (else-kind (eqb kind 8) (Hash Ripemd160 number) _ (not-12 (omega arith))
+        (else-kind (eqb kind 9) (Hash Hash160 number) _ (not-12 (omega arith))
+        (else-kind (eqb kind 10) (And (nth cs 0) (nth cs 1)) _ (not-12 (omega arith))
+        (else-kind (eqb kind 11) (Or (nth cs 0) (nth cs 1) left right) Unsatisfiable (not-12 (omega arith)) (not-12 (omega arith)))))))))))
+        (rw q at e))
+
+-- ---- the head of what is made, by kinds
+
+abbrev pub andHead : Head
+andHead = record { kind = 10; number = 0; k = 0; count = 2; «left_weight» = 0; «right_weight» = 0 }
+
+module _ (number k n leftWeight rightWeight : ℕ) where
+  -- the head h is the one of every policy made with so many children
+  abbrev pub Heads : ℕ → Head → Type 0
+  Heads kind h = (cs : List Policy) → length cs ≡ arity kind n → h ≡ headOf (made kind number k leftWeight rightWeight cs)
+
+  abbrev pub plain : ℕ → Head
+  plain kind = record { kind = kind; number = 0; k = 0; count = 0; «left_weight» = 0; «right_weight» = 0 }
+
+  pub trivial-head : (kind : ℕ) → kind ≡ 2 → Heads kind (plain 2)
+  unfolding made kindOf numberOf kOf leftWeightOf rightWeightOf childrenOf
+  trivial-head kind e = subst (λ (x : ℕ). Heads x (plain 2)) (sym e) (λ cs l. refl)
+
+  pub number-head : (kind : ℕ) → 3 ≤ kind → kind ≤ 9
+      → Heads kind (record { kind = kind; number = number; k = 0; count = 0; «left_weight» = 0; «right_weight» = 0 })
+  unfolding made kindOf numberOf kOf leftWeightOf rightWeightOf childrenOf
+  number-head kind l u =
+      each
+      (λ (x : ℕ). Heads x (record { kind = x; number = number; k = 0; count = 0; «left_weight» = 0; «right_weight» = 0 }))
+      3
+      7
+      (λ cs l. refl, (λ cs l. refl, (λ cs l. refl, (λ cs l. refl, (λ cs l. refl, (λ cs l. refl, (λ cs l. refl, tt)))))))
+      kind
+      l
+      (omega arith)
+
+  pub and-head : (kind : ℕ) → kind ≡ 10 → Heads kind andHead
+  unfolding made kindOf numberOf kOf leftWeightOf rightWeightOf childrenOf
+  and-head kind e = subst (λ (x : ℕ). Heads x andHead) (sym e) (λ cs l. refl)
+
+  abbrev pub orHead : Head
+  orHead = record { kind = 11; number = 0; k = 0; count = 2; «left_weight» = leftWeight; «right_weight» = rightWeight }
+
+  pub or-head : (kind : ℕ) → kind ≡ 11 → Heads kind orHead
+  unfolding made kindOf numberOf kOf leftWeightOf rightWeightOf childrenOf
+  or-head kind e = subst (λ (x : ℕ). Heads x orHead) (sym e) (λ cs l. refl)
+
+  abbrev pub threshHead : Head
+  threshHead = record { kind = 12; number = 0; k = k; count = n; «left_weight» = 0; «right_weight» = 0 }
+
+  pub thresh-head : (kind : ℕ) → kind ≡ 12 → Heads kind threshHead
+  unfolding made kindOf numberOf kOf leftWeightOf rightWeightOf childrenOf
+  thresh-head kind e = subst (λ (x : ℕ). Heads x threshHead) (sym e) λ cs l. ap counted (sym (ap length (to-from cs) ∙ l))
+    where
+      counted : ℕ → Head
+      counted c = record { kind = 12; number = 0; k = k; count = c; «left_weight» = 0; «right_weight» = 0 }
+
+  -- any other number makes Unsatisfiable
+  pub other-head : (kind : ℕ) → (2 ≤ kind → kind ≤ 12 → ⊥) → Heads kind (plain 1)
+  unfolding made kindOf numberOf kOf leftWeightOf rightWeightOf childrenOf
+  other-head kind out cs l =
+      let ne : (x : ℕ) → 2 ≤ x → x ≤ 12 → eqb kind x ≡ false =
+      λ x a b. ne-eqb kind x (λ (e : kind ≡ x). out (omega arith) (omega arith)) in
+      rw (
+        ne 2 (omega arith) (omega arith),
+        ne 3 (omega arith) (omega arith),
+        ne 4 (omega arith) (omega arith),
+        ne 5 (omega arith) (omega arith),
+        ne 6 (omega arith) (omega arith),
+        ne 7 (omega arith) (omega arith),
+        ne 8 (omega arith) (omega arith),
+        ne 9 (omega arith) (omega arith),
+        ne 10 (omega arith) (omega arith),
+        ne 11 (omega arith) (omega arith),
+        ne 12 (omega arith) (omega arith),
+      )

@@ -1,0 +1,11 @@
+pub mod Weights
+pub mod Ranges
+pub mod Forms
+pub mod Views
+pub mod Depths
+pub mod Rows
+pub mod Slots
+pub mod Fits
+pub mod Whole
+pub mod Records
+pub mod Roots

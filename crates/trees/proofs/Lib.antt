@@ -1,0 +1,11 @@
+-- Why the tree check is right.
+pub mod Slots
+pub mod Rules
+pub mod Joint
+pub mod Theorem
+pub mod ByKind
+pub mod InMemory
+pub mod Counting
+pub mod RecordLaws
+pub mod StepLaws
+pub mod LoopLaws

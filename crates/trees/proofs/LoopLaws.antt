@@ -1,0 +1,161 @@
+-- The loop over a tree's records: how far it is, and what each of its turns and its end come to. Assumes nothing.
+use Prim.Native.Nat.{ℕ, zero, suc, _+_, _-_, _≤_, _<_}
+use mathlib.Core.Bool.{Bool, true, false, cond}
+use mathlib.Core.List.{List, [], _∷_, _++_}
+use mathlib.Core.Option.{Option, none, some}
+use mathlib.Core.Path.{_≡_, refl, sym, ap, subst, _∙_}
+use native.Mathlib.Numerals.{add-one}
+use native.Mathlib.Omega.{arith}
+use borrow.Author.Tests.{eq-eqb, ne-eqb}
+use lib.Dec.{eqb}
+use lib.ListN.{length, getD, take, drop, length-drop}
+use lib.Seq.{drop-drop}
+use Rattle.records.specs.Payloads.{Payload, childrenOf}
+use Rattle.records.specs.RecordForm.{recordLength, kindOf, fragmentPayload}
+use Rattle.records.proofs.Laws.{length-bounds}
+use Rattle.types.specs.declared.«Type».{«Type»}
+use Rattle.terms.specs.declared.Context.{Context}
+use Rattle.trees.specs.declared.Step.{Step}
+use Rattle.trees.specs.declared.Step.the-variants as Step
+use Rattle.trees.specs.Reading.{Answer, refused, done, _>>=_, orRefuse, badTree, illTyped, treeTooLarge, maxRecords}
+use Rattle.trees.specs.Reading.{Slots, Taken, takeAll, rootOf, addMade, addPayload, addRecord, readFrom, readTree}
+use Rattle.trees.specs.Rules.{makeType}
+use Rattle.trees.specs.WorkMemory.{slotsIn, freeIn, stepAnswer, FreeAfter, Stepped}
+use Rattle.trees.proofs.Joint.{IfDone, refuses, holds}
+use Rattle.trees.proofs.Counting.{lastOf, RootByCount, count-none, count-more, free-le}
+use Rattle.trees.proofs.InMemory.{slots-length}
+use Rattle.trees.proofs.RecordLaws.{read-end, read-large, read-broken, read-next}
+
+-- ---- after a record, counting decides the root
+
+module _ {A : Type 0} (make : ℕ → Payload → List A → Answer A) where
+  counted-made : (left : Slots A) (a : Answer A) → IfDone RootByCount (a >>= λ x. done (left ++ (some x ∷ [])))
+  counted-made left (refused n) = refuses
+  counted-made left (done x) = holds (count-more left x)
+
+  counted-taken : (kind : ℕ) (p : Payload) (o : Option (Taken A)) → IfDone RootByCount (orRefuse badTree o >>= λ t. addMade make kind p t)
+  counted-taken kind p none = refuses
+  counted-taken kind p (some t) = counted-made (t .left) (make kind p (t .those))
+
+  counted : (slots : Slots A) (s : List ℕ) → IfDone RootByCount (addRecord make slots s)
+  unfolding addRecord
+  counted slots s = by-payload (fragmentPayload s)
+    where
+      by-payload : (o : Option Payload) → IfDone RootByCount (orRefuse badTree o >>= λ p. addPayload make slots (kindOf s) p)
+      by-payload none = refuses
+      by-payload (some p) = counted-taken (kindOf s) p (takeAll (childrenOf p) slots)
+
+  pub counted-after : (slots : Slots A) (s : List ℕ) (after : Slots A) → addRecord make slots s ≡ done after → RootByCount after
+  counted-after slots s after e = open-done (subst (λ (a : Answer (Slots A)). IfDone RootByCount a) e (counted slots s))
+    where
+      open-done : {after : Slots A} → IfDone RootByCount (done after) → RootByCount after
+      open-done (holds h) = h
+
+-- ---- the loop
+
+-- the first `at` bytes hold `read` records, of which `free` are free, and the bytes behind them decide
+pub record Progress (c : Context) (tree work : List ℕ) (at read free : ℕ) : Type 0 where
+  pub rest : readFrom (makeType c) (maxRecords - read) (slotsIn work read) (drop at tree) ≡ readTree (makeType c) tree
+  pub within : at ≤ length tree
+  pub few : read ≤ maxRecords
+  pub room : length work ≡ maxRecords
+  pub count : free ≡ freeIn (slotsIn work read)
+  pub root : RootByCount (slotsIn work read)
+
+pub progress-start : (c : Context) (tree work : List ℕ) → length work ≡ maxRecords → Progress c tree work 0 0 0
+unfolding readTree freeIn
+progress-start c tree work e =
+    record { rest = refl; within = omega arith; few = omega arith; room = e; count = refl; root = count-none }
+
+module _ (c : Context) (tree work : List ℕ) (at read free : ℕ) (so-far : Progress c tree work at read free) where
+  some-left : at < length tree → 0 < length (drop at tree)
+  some-left h = rw (length-drop at tree) (omega arith)
+
+  one-less : read < maxRecords → maxRecords - read ≡ suc (maxRecords - (read + 1))
+  one-less h = omega arith
+
+  pub free-few : free ≤ maxRecords
+  free-few =
+      let l = free-le (slotsIn work read) in
+      let n = slots-length work read (omega arith) in
+      omega arith
+
+  pub progress-large : at < length tree → read ≡ maxRecords → refused treeTooLarge ≡ readTree (makeType c) tree
+  progress-large h e =
+      let z : maxRecords - read ≡ 0 = omega arith in
+      sym (read-large (makeType c) (slotsIn work read) (drop at tree) (some-left h))
+      ∙ ap (λ (n : ℕ). readFrom (makeType c) n (slotsIn work read) (drop at tree)) (sym z) ∙ so-far .rest
+
+  pub progress-broken : at < length tree → read < maxRecords → recordLength (drop at tree) ≡ none
+      → refused badTree ≡ readTree (makeType c) tree
+  progress-broken h l e =
+      sym (read-broken (makeType c) (maxRecords - (read + 1)) (slotsIn work read) (drop at tree) (some-left h) e)
+      ∙ ap (λ (n : ℕ). readFrom (makeType c) n (slotsIn work read) (drop at tree)) (sym (one-less l)) ∙ so-far .rest
+
+  module _ (h : at < length tree) (l : read < maxRecords) (len end : ℕ) (e : recordLength (drop at tree) ≡ some len) (is : end ≡ at + len) where
+    pub end-within : end ≤ length tree
+    end-within = omega (arith, length-bounds (drop at tree) e, length-drop at tree)
+
+    pub end-later : at < end
+    end-later = omega (arith, length-bounds (drop at tree) e)
+
+    after-record : {a : Answer (Slots «Type»)} → addRecord (makeType c) (slotsIn work read) (take (end - at) (drop at tree)) ≡ a
+        → (a >>= λ slots. readFrom (makeType c) (maxRecords - (read + 1)) slots (drop len (drop at tree))) ≡ readTree (makeType c) tree
+    after-record {a} f =
+        let same : end - at ≡ len = omega arith in
+        sym (read-next (makeType c) (maxRecords - (read + 1)) (slotsIn work read) (drop at tree) len (some-left h) e
+        (subst (λ (n : ℕ). addRecord (makeType c) (slotsIn work read) (take n (drop at tree)) ≡ a) same f))
+        ∙ ap (λ (n : ℕ). readFrom (makeType c) n (slotsIn work read) (drop at tree)) (sym (one-less l)) ∙ so-far .rest
+
+    module _ (work′ : List ℕ) (r : Step) (stepped : Stepped c (take (end - at) (drop at tree)) work work′ read r) where
+      pub progress-bad : r ≡ Step.BadTree → refused badTree ≡ readTree (makeType c) tree
+      progress-bad t = after-record (stepped .says ∙ ap (λ (r : Step). stepAnswer r (slotsIn work′ (read + 1))) t)
+
+      pub progress-ill : r ≡ Step.IllTyped → refused illTyped ≡ readTree (makeType c) tree
+      progress-ill t = after-record (stepped .says ∙ ap (λ (r : Step). stepAnswer r (slotsIn work′ (read + 1))) t)
+
+      pub progress-free : (children : ℕ) → r ≡ Step.Next children → freeIn (slotsIn work′ (read + 1)) + children ≡ free + 1
+      progress-free children t =
+          rw (so-far .count)
+          (subst (λ (r : Step). FreeAfter r (slotsIn work read) (slotsIn work′ (read + 1))) t (stepped .free))
+
+      pub progress-next : (children : ℕ) → r ≡ Step.Next children → Progress c tree work′ end (read + 1) (free + 1 - children)
+      progress-next children t =
+          let says = stepped .says ∙ ap (λ (r : Step). stepAnswer r (slotsIn work′ (read + 1))) t in
+          record {
+            rest =
+              ap (λ (s : List ℕ). readFrom (makeType c) (maxRecords - (read + 1)) (slotsIn work′ (read + 1)) s)
+              (ap (λ (n : ℕ). drop n tree) is ∙ sym (drop-drop len at tree))
+              ∙ after-record says;
+            within = end-within;
+            few = omega arith;
+            room = stepped .same ∙ so-far .room;
+            count = omega (arith, progress-free children t);
+            root = counted-after (makeType c) (slotsIn work read) (take (end - at) (drop at tree)) (slotsIn work′ (read + 1)) says;
+          }
+
+  module _ (h : length tree ≤ at) where
+    at-end : orRefuse badTree (rootOf (slotsIn work read)) ≡ readTree (makeType c) tree
+    at-end =
+        sym (read-end (makeType c) (maxRecords - read) (slotsIn work read) (drop at tree) (rw (length-drop at tree) (omega arith)))
+        ∙ so-far .rest
+
+    pub progress-unused : (free ≡ 1 → ⊥) → refused badTree ≡ readTree (makeType c) tree
+    progress-unused f =
+        let not-one : eqb (freeIn (slotsIn work read)) 1 ≡ false = ne-eqb (freeIn (slotsIn work read)) 1 (λ e. f (so-far .count ∙ e)) in
+        let none-is-root : rootOf (slotsIn work read) ≡ none = so-far .root ∙ rw not-one in
+        sym (ap (orRefuse badTree) none-is-root) ∙ at-end
+
+    pub progress-root : free ≡ 1 → orRefuse badTree (getD (slotsIn work read) (read - 1) none) ≡ readTree (makeType c) tree
+    progress-root f =
+        let one : eqb (freeIn (slotsIn work read)) 1 ≡ true = eq-eqb (freeIn (slotsIn work read)) 1 (sym (so-far .count) ∙ f) in
+        let last : lastOf (slotsIn work read) ≡ getD (slotsIn work read) (read - 1) none =
+          ap (λ (n : ℕ). getD (slotsIn work read) (n - 1) none) (slots-length work read (omega arith)) in
+        let last-is-root : rootOf (slotsIn work read) ≡ getD (slotsIn work read) (read - 1) none = so-far .root ∙ rw one last in
+        sym (ap (orRefuse badTree) last-is-root) ∙ at-end
+
+    pub some-read : free ≡ 1 → 1 ≤ read
+    some-read f =
+        let l = free-le (slotsIn work read) in
+        let n = slots-length work read (omega arith) in
+        omega arith

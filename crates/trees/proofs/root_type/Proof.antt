@@ -1,0 +1,57 @@
+use borrow.Author.Needs.{needs}
+use mathlib.Core.Path.{_≡_, refl, sym, ap, _∙_}
+use mathlib.Core.Option.{none}
+use native.Mathlib.Omega.{arith}
+use Rattle.trees.specs.Reading.{orRefuse, badTree}
+use Rattle.trees.specs.WorkMemory.{slotOf}
+use Rattle.trees.proofs.InMemory.{slot-at, free-slot, taken-slot}
+use Prim.Native.Nat.{_-_}
+use lib.ListN.{getD}
+use Rattle.trees.proofs.root_type.Statement.{statement}
+use Rattle.trees.proofs.root_type.Tie as tie
+use Rattle.trees.proofs.root_type.Reads as reads
+use Rattle.trees.proofs.root_type.Lts as lts
+use Rattle.trees.proofs.slot_of.Reads as slot-of-reads
+
+sub-slot-of : tie.Need-sub-slot-of
+sub-slot-of c = search needs
+
+mul-slot-of : tie.Need-mul-slot-of
+mul-slot-of c = search needs
+
+slice-read-slot-of : tie.Need-slice-read-slot-of
+slice-read-slot-of c = search needs
+
+slot-of-requires : tie.Need-slot-of-requires
+slot-of-requires c κs = search needs
+
+enum-known-t : tie.Need-enum-known-t
+enum-known-t c = search needs
+
+enum-told : tie.Need-enum-told
+enum-told c = search needs
+
+returns : tie.Need-returns
+returns c =
+    let args = c .before .before .before .before .before .before .args in
+    let told = free-slot (slotOf (getD (args .work .now) (args .read - 1) 0)) (c .before .before .before .slot-of .ensures) (c .before .t .given .1) in
+    (sym (ap (orRefuse badTree) (slot-at (args .work .now) (args .read) (args .read - 1) (omega arith) ∙ told)), refl)
+
+returns-2 : tie.Need-returns-2
+returns-2 c =
+    let args = c .before .before .before .before .before .args in
+    let told = taken-slot (slotOf (getD (args .work .now) (args .read - 1) 0)) (c .before .before .slot-of .ensures) (c .enum-told .given .1) in
+    (sym (ap (orRefuse badTree) (slot-at (args .work .now) (args .read) (args .read - 1) (omega arith) ∙ told)), refl)
+
+pub root-type-spec : {M : Type 1} → statement M
+root-type-spec =
+    tie.close
+    (tie.spec
+    sub-slot-of
+    mul-slot-of
+    slice-read-slot-of
+    slot-of-requires
+    enum-known-t
+    enum-told
+    returns
+    returns-2)

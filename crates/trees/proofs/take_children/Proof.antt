@@ -1,0 +1,130 @@
+use native.Mathlib.Omega.{arith}
+use lib.ListN.{length-set}
+use mathlib.Core.List.{[]}
+use mathlib.Core.Option.{none}
+use mathlib.Core.Path.{_≡_, refl, sym, ap, _∙_}
+use Prim.Native.Nat.{_≤_, _-_}
+use lib.ListN.{length, getD, take, length-set, length-replicate}
+use Rattle.trees.specs.Reading.{takeAll}
+use Rattle.trees.specs.WorkMemory.{slotsIn}
+use Rattle.trees.proofs.InMemory.{ToCome, free-slot, taken-slot, children-start, children-more, children-stop, children-end}
+use borrow.Author.Needs.{needs}
+use Rattle.trees.proofs.take_children.Statement.{statement}
+use Rattle.trees.proofs.take_children.Tie as tie
+use Rattle.trees.proofs.take_children.Reads as reads
+use Rattle.trees.proofs.take_children.Lts as lts
+use Rattle.trees.proofs.take_child.Reads as take-child-reads
+use Rattle.types.proofs.Type.of_false.Reads as of-false-reads
+
+abbrev Inv-loop : tie.InvT-loop
+Inv-loop work₀ read n children types₀ i₀ work types i =
+    ToCome children n (takeAll (take n children) (slotsIn work₀ read)) types i (slotsIn work read)
+    × (i ≤ n) × (length types ≡ 16) × (length work ≡ length work₀)
+
+abbrev μ-loop : tie.MeasureT-loop
+μ-loop work₀ read n children types₀ i₀ work types i = n - i
+
+of-false-requires : tie.Need-of-false-requires Inv-loop μ-loop
+of-false-requires c κs = search needs
+
+loop-holds : tie.Need-loop-holds Inv-loop μ-loop
+loop-holds c =
+    let args = c .before .before .args in (
+      children-start (args .t3) (args .n) _ [] (slotsIn (args .work .now) (args .read)) refl,
+      omega arith, search needs, refl,
+    )
+
+mul-child : tie.Need-mul-child Inv-loop μ-loop
+mul-child c = omega arith
+
+array-read-child : tie.Need-array-read-child Inv-loop μ-loop
+array-read-child c = omega arith
+
+cast-child : tie.Need-cast-child Inv-loop μ-loop
+cast-child c = search needs
+
+take-child-requires : tie.Need-take-child-requires Inv-loop μ-loop
+take-child-requires c κs = omega (arith, c .before .before .loop .inv .3, c .before .before .before .before .before .pre .0)
+
+enum-known-t : tie.Need-enum-known-t Inv-loop μ-loop
+enum-known-t c = search needs
+
+enum-told : tie.Need-enum-told Inv-loop μ-loop
+enum-told c = search needs
+
+same-length : tie.Need-same-length Inv-loop μ-loop
+same-length c = search needs
+
+returns : tie.Need-returns Inv-loop μ-loop
+returns c =
+    let args = c .before .before .before .before .before .before .before .before .before .before .args in
+    let loop = c .before .before .before .before .before .before .before .loop in
+    let took = c .before .before .before .before .take-child in
+    let len : length (args .t3) ≡ 16 = search needs in (
+      children-stop (args .t3) (args .n) _ (loop .types) (loop .i) (slotsIn (loop .work) (args .read)) (c .before .before .before .before .before .before .loop-test .taken) (omega arith)
+      (taken-slot (getD (slotsIn (loop .work) (args .read)) (getD (args .t3) (loop .i) 0) none) (took .ensures .0) (c .enum-told .given .1))
+      (loop .inv .0),
+      took .ensures .1 .1 ∙ loop .inv .3,
+    )
+
+mul-types : tie.Need-mul-types Inv-loop μ-loop
+mul-types c = omega arith
+
+array-set-from-types : tie.Need-array-set-from-types Inv-loop μ-loop
+array-set-from-types c = omega arith
+
+add-i : tie.Need-add-i Inv-loop μ-loop
+add-i c = omega arith
+
+loop-less : tie.Need-loop-less Inv-loop μ-loop
+loop-less c = omega arith
+
+loop-again : tie.Need-loop-again Inv-loop μ-loop
+loop-again c =
+    let args = c .before .before .before .before .before .before .before .before .before .before .before .args in
+    let loop = c .before .before .before .before .before .before .before .before .loop in
+    let took = c .before .before .before .before .before .take-child in
+    let len : length (args .t3) ≡ 16 = search needs in (
+      children-more (args .t3) (args .n) _ (loop .types) (loop .i) (slotsIn (loop .work) (args .read)) _ _ (c .before .before .before .before .before .before .before .loop-test .taken)
+      (omega arith) (omega (arith, loop .inv .2))
+      (free-slot (getD (slotsIn (loop .work) (args .read)) (getD (args .t3) (loop .i) 0) none) (took .ensures .0) (c .before .t .given .1))
+      (took .ensures .1 .0) (loop .inv .0),
+      omega arith,
+      length-set (loop .types) (loop .i) _ ∙ loop .inv .2,
+      took .ensures .1 .1 ∙ loop .inv .3,
+    )
+
+same-length-2 : tie.Need-same-length-2 Inv-loop μ-loop
+same-length-2 c = search needs
+
+returns-2 : tie.Need-returns-2 Inv-loop μ-loop
+returns-2 c =
+    let args = c .before .before .before .before .args in
+    let loop = c .before .loop in (
+      children-end (args .t3) (args .n) _ (loop .types) (loop .i) (slotsIn (loop .work) (args .read)) (omega (arith, loop .inv .1)) (loop .inv .0),
+      loop .inv .3,
+    )
+
+pub take-children-spec : {M : Type 1} → statement M
+take-children-spec =
+    tie.close
+    (tie.spec
+    Inv-loop
+    μ-loop
+    of-false-requires
+    loop-holds
+    mul-child
+    array-read-child
+    cast-child
+    take-child-requires
+    enum-known-t
+    enum-told
+    same-length
+    returns
+    mul-types
+    array-set-from-types
+    add-i
+    loop-less
+    loop-again
+    same-length-2
+    returns-2)

@@ -1,0 +1,19 @@
+-- What the tree check answers: document 01's number, and the type, for each of its cases ("Numbers the console shows").
+use Prim.Native.Nat.{ℕ}
+use Rattle.types.specs.declared.«Type».{«Type»}
+use Rattle.trees.specs.declared.Checked.{Checked}
+use Rattle.trees.specs.declared.Checked.the-variants as Checked
+use Rattle.trees.specs.Reading.{Answer, refused, done, mapAnswer, badTree, illTyped, treeTooLarge}
+use Rattle.trees.specs.TreeCheck.{badContext, badWork, Typed}
+
+abbrev pub answerOf : Checked → Answer «Type»
+answerOf Checked.BadContext = refused badContext
+answerOf Checked.BadWork = refused badWork
+answerOf Checked.BadTree = refused badTree
+answerOf Checked.IllTyped = refused illTyped
+answerOf Checked.TreeTooLarge = refused treeTooLarge
+answerOf (Checked.Typed t) = done t
+
+-- the check gives the root's type, and the tree to nobody but a reader of this page
+abbrev pub typeOnly : Answer Typed → Answer «Type»
+typeOnly a = mapAnswer (λ x. x .type) a
