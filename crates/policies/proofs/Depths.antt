@@ -63,7 +63,7 @@ module _ (m : List ℕ) (g : Good m) where
   depth-row i b h before =
       rw (depth-is (recordPolicy m i), stored-children m i g h)
       (let l : deepestIn (map (recordPolicy m) (childrenAt m i)) ≤ b =
-          deepest-few (recordPolicy m) m (40 * i + 6) (countAt m i) b each in omega arith)
+      deepest-few (recordPolicy m) m (40 * i + 6) (countAt m i) b each in omega arith)
     where
       each : (j : ℕ) → j < countAt m i → depth (recordPolicy m (getD m (40 * i + 6 + j) 0)) ≤ b
       each j l =

@@ -356,8 +356,8 @@ module _ (m : List ℕ) (g : Good m) where
     thresh-some =
         let made-of = stored-made m i g h in
         let kind : kindAt m i ≡ 12 =
-                thresh-made (kindAt m i) (wordAt m i 1) (wordAt m i 2) (wordAt m i 4) (wordAt m i 5) (map (recordPolicy m) (childrenAt m i))
-                (ap kindOf (sym made-of ∙ sym (stored-is m i h) ∙ p)) in
+        thresh-made (kindAt m i) (wordAt m i 1) (wordAt m i 2) (wordAt m i 4) (wordAt m i 5) (map (recordPolicy m) (childrenAt m i))
+        (ap kindOf (sym made-of ∙ sym (stored-is m i h) ∙ p)) in
         let bounds = g .some-of i h kind in
         let same : k ≡ wordAt m i 2 = ap kOf (sym p ∙ stored-is m i h ∙ made-of) ∙ rw kind in
         let n : countAt m i ≡ wordAt m i 3 = rw kind in

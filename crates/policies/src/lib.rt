@@ -22,17 +22,23 @@ use records::RecordLength;
 
 // The most records that a policy has, the most children that a record has, and the greatest depth.
 const MAX_RECORDS: usize = 64;
+
 const MAX_CHILDREN: usize = 16;
+
 const MAX_DEPTH: usize = 16;
 
 // The words of the array and of a row, and the places of a row's first child and of its mark.
 const ARRAY_WORDS: usize = 2560;
+
 const ROW_WORDS: usize = 40;
+
 const FIRST_CHILD: usize = 6;
+
 const TAKEN: usize = 22;
 
 // The kinds And and Or.
 const AND: u64 = 10;
+
 const OR: u16 = 11;
 
 // What a policy is besides its children: 0 where it has no such part. `count` is the number of its children.

@@ -73,7 +73,7 @@ same-length-4 c = search needs
 returns-5 : tie.Need-returns-5
 returns-5 c =
     let args =
-            c .before .before .before .before .before .before .before .before .before .before .before .before .before .before .before .before .args in
+    c .before .before .before .before .before .before .before .before .before .before .before .before .before .before .before .before .args in
     let if1 = c .before .before .before .before .before .before .before .before .before .before .before .before .before .if1 in
     let read-records = c .before .before .before .before .before .before .before .read-records in
     let count = c .before .before .before .count in

@@ -79,8 +79,11 @@ add-at c =
     let if1 = c .before .before .before .before .before .before .before .if1 in
     let read-record = c .before .before .before .before .before .read-record in
     let len = c .before .len in
-    omega (arith, read-moves (args .bytes .now) (loop .pol) (loop .at) (loop .i) (loop .inv) (loop-test .taken) (if1 .left) (read-record .ensures)
-      _ (len .given .1) .1)
+    omega (
+      arith,
+      read-moves (args .bytes .now) (loop .pol) (loop .at) (loop .i) (loop .inv) (loop-test .taken) (if1 .left) (read-record .ensures)
+          _ (len .given .1) .1,
+    )
 
 add-i : tie.Need-add-i Inv-loop μ-loop
 add-i c = omega (arith, c .before .before .before .before .before .before .before .before .before .loop .inv .few)
@@ -94,8 +97,8 @@ loop-less c =
     let read-record = c .before .before .before .before .before .read-record in
     let len = c .before .len in
     let moves =
-            read-moves (args .bytes .now) (loop .pol) (loop .at) (loop .i) (loop .inv) (loop-test .taken) (if1 .left) (read-record .ensures) _
-            (len .given .1) in
+    read-moves (args .bytes .now) (loop .pol) (loop .at) (loop .i) (loop .inv) (loop-test .taken) (if1 .left) (read-record .ensures) _
+    (len .given .1) in
     omega (arith, moves .0, moves .1)
 
 loop-again : tie.Need-loop-again Inv-loop μ-loop

@@ -59,9 +59,9 @@ same-length-2 c = search needs
 returns-3 : tie.Need-returns-3
 returns-3 c =
     let args =
-            c .before .before .before .before .before .before .before .before .before .before .before .before .before .before .before .before .args in
+    c .before .before .before .before .before .before .before .before .before .before .before .before .before .before .before .before .args in
     let pre =
-            c .before .before .before .before .before .before .before .before .before .before .before .before .before .before .before .before .pre in
+    c .before .before .before .before .before .before .before .before .before .before .before .before .before .before .before .before .pre in
     let policy-parts = c .before .before .before .before .before .before .before .before .before .before .before .before .before .policy-parts in
     let if1 = c .before .before .before .before .before .before .before .before .before .before .before .before .if1 in
     let kind-of = c .before .before .before .before .before .before .before .before .before .before .before .kind-of in
@@ -79,9 +79,9 @@ same-length-3 c = search needs
 returns-4 : tie.Need-returns-4
 returns-4 c =
     let args =
-            c .before .before .before .before .before .before .before .before .before .before .before .before .before .before .before .before .args in
+    c .before .before .before .before .before .before .before .before .before .before .before .before .before .before .before .before .args in
     let pre =
-            c .before .before .before .before .before .before .before .before .before .before .before .before .before .before .before .before .pre in
+    c .before .before .before .before .before .before .before .before .before .before .before .before .before .before .before .before .pre in
     let policy-parts = c .before .before .before .before .before .before .before .before .before .before .before .before .before .policy-parts in
     let if1 = c .before .before .before .before .before .before .before .before .before .before .before .before .if1 in
     let kind-of = c .before .before .before .before .before .before .before .before .before .before .before .kind-of in

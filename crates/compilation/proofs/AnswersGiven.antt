@@ -1,0 +1,181 @@
+-- The definition of compile gives the answers of the Rust: computed.
+use mathlib.Core.Bool.{Bool, true, false, _&&_}
+use mathlib.Core.List.{List, [], _∷_, _++_}
+use mathlib.Core.Path.{_≡_, refl}
+use Rattle.words.specs.Bytes.{bytesOf, little, leAt}
+use Rattle.records.specs.Numbers.{u16s, u32s}
+use Rattle.records.specs.Shapes.{shapeOf, lookUp}
+use Rattle.records.specs.Payloads.{payloadOf}
+use Rattle.policies.specs.Policy.{depth, deepest, fromList}
+use Rattle.policies.specs.Forms.{made}
+use Rattle.policies.specs.Reading.{without, readWhole, readRecord, rootOf, finish, readFrom, readPolicy}
+use Rattle.figures.specs.Rules as ext
+use Rattle.figures.specs.Validity.{fromAst, checkGlobalValidity, checkLocalValidity}
+use Rattle.thresholds.specs.Threshold.{threshold, satisfied, worst, together, tryFold, sortBy, insertBy}
+use Rattle.costs.specs.Rules as cost
+use Rattle.costs.specs.Cost1d.{cost1d}
+use Rattle.types.specs.Lists as lists
+use Rattle.trees.specs.Fragment.{toList}
+use lib.Ieee.{add, sub, mul, div, lt, eq, le, ofBits, toBits, ofInt}
+use Rattle.compilation.specs.Candidates.{fragments, threshOf}
+use Rattle.compilation.specs.Tables.{enter}
+use Rattle.compilation.specs.SamePolicy.{same, sameAll}
+use Rattle.compilation.specs.Refusals.{then, lookup}
+use Rattle.compilation.specs.Insertion.{any, filter, insert, castAll, closure, insertClosure}
+use Rattle.compilation.specs.Search.{forEach, castsOf, wrapped, cheapest, remembering, searching, andBody, andOrs, fourOf, orBody}
+use Rattle.compilation.specs.Search.{bestOf, bests, mostGaining, othersAsW, arranged, keysOf, foldAnds, threshBody, searcher, searchers}
+use Rattle.writing.specs.Writing.{inRow, nodeOf, nodesOf, count, counts, owns, written, writtenAll}
+use Rattle.compilation.specs.Compile.{bestCompilation, compilePolicy, compile}
+use Rattle.compilation.specs.AnswersOfTheRust.{Line, right, hexOnto, sameBytes, allRight, answers}
+use Rattle.compilation.specs.AnswersOfTheRust.{part-a, part-b, part-c, part-d, part-e, part-f, part-g, part-h}
+
+and-intro : (a b : Bool) → a ≡ true → b ≡ true → a && b ≡ true
+and-intro true b p q = q
+and-intro false b p q = p
+
+and-left : (a b : Bool) → a && b ≡ true → a ≡ true
+and-left true b p = refl
+and-left false b p = p
+
+and-right : (a b : Bool) → a && b ≡ true → b ≡ true
+and-right true b p = p
+and-right false true p = refl
+and-right false false p = p
+
+-- two lists that are right are right as one
+both-right : (xs ys : List Line) → allRight xs ≡ true → allRight ys ≡ true → allRight (xs ++ ys) ≡ true
+unfolding allRight
+both-right [] ys p q = q
+both-right (x ∷ xs) ys p q = and-intro (right x) (allRight (xs ++ ys)) (and-left (right x) (allRight xs) p) (both-right xs ys (and-right (right x) (allRight xs) p) q)
+
+right-a : allRight part-a ≡ true
+unfolding allRight part-a hexOnto sameBytes compile compilePolicy bestCompilation
+    little leAt bytesOf u16s u32s shapeOf lookUp payloadOf made fromList without readWhole readRecord rootOf finish readFrom readPolicy depth deepest
+    searcher searchers searching remembering lookup same sameAll then forEach castsOf wrapped cheapest
+    insertClosure closure castAll insert any filter enter cost1d inRow toList nodeOf nodesOf count counts owns written writtenAll
+    checkLocalValidity checkGlobalValidity fromAst ext.falseExt ext.trueExt ext.pkK ext.pkH ext.multi ext.multiA
+    ext.sha256 ext.hash256 ext.ripemd160 ext.hash160 ext.after ext.older ext.castAlt ext.castSwap ext.castCheck
+    ext.castDupif ext.castVerify ext.castNonzero ext.castZeronotequal ext.castTrue ext.castUnlikely ext.castLikely
+    ext.andB ext.andV ext.orB ext.orC ext.orD ext.orI ext.andOr
+    cost.orB cost.orC cost.orD cost.orI cost.andOr cost.threshold cost.plusAll
+    threshold satisfied worst together tryFold sortBy insertBy lists.all lists.sum fragments threshOf
+    andBody andOrs fourOf orBody bestOf bests mostGaining othersAsW arranged keysOf foldAnds threshBody
+    add sub mul div lt eq le ofBits toBits ofInt
+right-a = refl
+
+right-b : allRight part-b ≡ true
+unfolding allRight part-b hexOnto sameBytes compile compilePolicy bestCompilation
+    little leAt bytesOf u16s u32s shapeOf lookUp payloadOf made fromList without readWhole readRecord rootOf finish readFrom readPolicy depth deepest
+    searcher searchers searching remembering lookup same sameAll then forEach castsOf wrapped cheapest
+    insertClosure closure castAll insert any filter enter cost1d inRow toList nodeOf nodesOf count counts owns written writtenAll
+    checkLocalValidity checkGlobalValidity fromAst ext.falseExt ext.trueExt ext.pkK ext.pkH ext.multi ext.multiA
+    ext.sha256 ext.hash256 ext.ripemd160 ext.hash160 ext.after ext.older ext.castAlt ext.castSwap ext.castCheck
+    ext.castDupif ext.castVerify ext.castNonzero ext.castZeronotequal ext.castTrue ext.castUnlikely ext.castLikely
+    ext.andB ext.andV ext.orB ext.orC ext.orD ext.orI ext.andOr
+    cost.orB cost.orC cost.orD cost.orI cost.andOr cost.threshold cost.plusAll
+    threshold satisfied worst together tryFold sortBy insertBy lists.all lists.sum fragments threshOf
+    andBody andOrs fourOf orBody bestOf bests mostGaining othersAsW arranged keysOf foldAnds threshBody
+    add sub mul div lt eq le ofBits toBits ofInt
+right-b = refl
+
+right-c : allRight part-c ≡ true
+unfolding allRight part-c hexOnto sameBytes compile compilePolicy bestCompilation
+    little leAt bytesOf u16s u32s shapeOf lookUp payloadOf made fromList without readWhole readRecord rootOf finish readFrom readPolicy depth deepest
+    searcher searchers searching remembering lookup same sameAll then forEach castsOf wrapped cheapest
+    insertClosure closure castAll insert any filter enter cost1d inRow toList nodeOf nodesOf count counts owns written writtenAll
+    checkLocalValidity checkGlobalValidity fromAst ext.falseExt ext.trueExt ext.pkK ext.pkH ext.multi ext.multiA
+    ext.sha256 ext.hash256 ext.ripemd160 ext.hash160 ext.after ext.older ext.castAlt ext.castSwap ext.castCheck
+    ext.castDupif ext.castVerify ext.castNonzero ext.castZeronotequal ext.castTrue ext.castUnlikely ext.castLikely
+    ext.andB ext.andV ext.orB ext.orC ext.orD ext.orI ext.andOr
+    cost.orB cost.orC cost.orD cost.orI cost.andOr cost.threshold cost.plusAll
+    threshold satisfied worst together tryFold sortBy insertBy lists.all lists.sum fragments threshOf
+    andBody andOrs fourOf orBody bestOf bests mostGaining othersAsW arranged keysOf foldAnds threshBody
+    add sub mul div lt eq le ofBits toBits ofInt
+right-c = refl
+
+right-d : allRight part-d ≡ true
+unfolding allRight part-d hexOnto sameBytes compile compilePolicy bestCompilation
+    little leAt bytesOf u16s u32s shapeOf lookUp payloadOf made fromList without readWhole readRecord rootOf finish readFrom readPolicy depth deepest
+    searcher searchers searching remembering lookup same sameAll then forEach castsOf wrapped cheapest
+    insertClosure closure castAll insert any filter enter cost1d inRow toList nodeOf nodesOf count counts owns written writtenAll
+    checkLocalValidity checkGlobalValidity fromAst ext.falseExt ext.trueExt ext.pkK ext.pkH ext.multi ext.multiA
+    ext.sha256 ext.hash256 ext.ripemd160 ext.hash160 ext.after ext.older ext.castAlt ext.castSwap ext.castCheck
+    ext.castDupif ext.castVerify ext.castNonzero ext.castZeronotequal ext.castTrue ext.castUnlikely ext.castLikely
+    ext.andB ext.andV ext.orB ext.orC ext.orD ext.orI ext.andOr
+    cost.orB cost.orC cost.orD cost.orI cost.andOr cost.threshold cost.plusAll
+    threshold satisfied worst together tryFold sortBy insertBy lists.all lists.sum fragments threshOf
+    andBody andOrs fourOf orBody bestOf bests mostGaining othersAsW arranged keysOf foldAnds threshBody
+    add sub mul div lt eq le ofBits toBits ofInt
+right-d = refl
+
+right-e : allRight part-e ≡ true
+unfolding allRight part-e hexOnto sameBytes compile compilePolicy bestCompilation
+    little leAt bytesOf u16s u32s shapeOf lookUp payloadOf made fromList without readWhole readRecord rootOf finish readFrom readPolicy depth deepest
+    searcher searchers searching remembering lookup same sameAll then forEach castsOf wrapped cheapest
+    insertClosure closure castAll insert any filter enter cost1d inRow toList nodeOf nodesOf count counts owns written writtenAll
+    checkLocalValidity checkGlobalValidity fromAst ext.falseExt ext.trueExt ext.pkK ext.pkH ext.multi ext.multiA
+    ext.sha256 ext.hash256 ext.ripemd160 ext.hash160 ext.after ext.older ext.castAlt ext.castSwap ext.castCheck
+    ext.castDupif ext.castVerify ext.castNonzero ext.castZeronotequal ext.castTrue ext.castUnlikely ext.castLikely
+    ext.andB ext.andV ext.orB ext.orC ext.orD ext.orI ext.andOr
+    cost.orB cost.orC cost.orD cost.orI cost.andOr cost.threshold cost.plusAll
+    threshold satisfied worst together tryFold sortBy insertBy lists.all lists.sum fragments threshOf
+    andBody andOrs fourOf orBody bestOf bests mostGaining othersAsW arranged keysOf foldAnds threshBody
+    add sub mul div lt eq le ofBits toBits ofInt
+right-e = refl
+
+right-f : allRight part-f ≡ true
+unfolding allRight part-f hexOnto sameBytes compile compilePolicy bestCompilation
+    little leAt bytesOf u16s u32s shapeOf lookUp payloadOf made fromList without readWhole readRecord rootOf finish readFrom readPolicy depth deepest
+    searcher searchers searching remembering lookup same sameAll then forEach castsOf wrapped cheapest
+    insertClosure closure castAll insert any filter enter cost1d inRow toList nodeOf nodesOf count counts owns written writtenAll
+    checkLocalValidity checkGlobalValidity fromAst ext.falseExt ext.trueExt ext.pkK ext.pkH ext.multi ext.multiA
+    ext.sha256 ext.hash256 ext.ripemd160 ext.hash160 ext.after ext.older ext.castAlt ext.castSwap ext.castCheck
+    ext.castDupif ext.castVerify ext.castNonzero ext.castZeronotequal ext.castTrue ext.castUnlikely ext.castLikely
+    ext.andB ext.andV ext.orB ext.orC ext.orD ext.orI ext.andOr
+    cost.orB cost.orC cost.orD cost.orI cost.andOr cost.threshold cost.plusAll
+    threshold satisfied worst together tryFold sortBy insertBy lists.all lists.sum fragments threshOf
+    andBody andOrs fourOf orBody bestOf bests mostGaining othersAsW arranged keysOf foldAnds threshBody
+    add sub mul div lt eq le ofBits toBits ofInt
+right-f = refl
+
+right-g : allRight part-g ≡ true
+unfolding allRight part-g hexOnto sameBytes compile compilePolicy bestCompilation
+    little leAt bytesOf u16s u32s shapeOf lookUp payloadOf made fromList without readWhole readRecord rootOf finish readFrom readPolicy depth deepest
+    searcher searchers searching remembering lookup same sameAll then forEach castsOf wrapped cheapest
+    insertClosure closure castAll insert any filter enter cost1d inRow toList nodeOf nodesOf count counts owns written writtenAll
+    checkLocalValidity checkGlobalValidity fromAst ext.falseExt ext.trueExt ext.pkK ext.pkH ext.multi ext.multiA
+    ext.sha256 ext.hash256 ext.ripemd160 ext.hash160 ext.after ext.older ext.castAlt ext.castSwap ext.castCheck
+    ext.castDupif ext.castVerify ext.castNonzero ext.castZeronotequal ext.castTrue ext.castUnlikely ext.castLikely
+    ext.andB ext.andV ext.orB ext.orC ext.orD ext.orI ext.andOr
+    cost.orB cost.orC cost.orD cost.orI cost.andOr cost.threshold cost.plusAll
+    threshold satisfied worst together tryFold sortBy insertBy lists.all lists.sum fragments threshOf
+    andBody andOrs fourOf orBody bestOf bests mostGaining othersAsW arranged keysOf foldAnds threshBody
+    add sub mul div lt eq le ofBits toBits ofInt
+right-g = refl
+
+right-h : allRight part-h ≡ true
+unfolding allRight part-h hexOnto sameBytes compile compilePolicy bestCompilation
+    little leAt bytesOf u16s u32s shapeOf lookUp payloadOf made fromList without readWhole readRecord rootOf finish readFrom readPolicy depth deepest
+    searcher searchers searching remembering lookup same sameAll then forEach castsOf wrapped cheapest
+    insertClosure closure castAll insert any filter enter cost1d inRow toList nodeOf nodesOf count counts owns written writtenAll
+    checkLocalValidity checkGlobalValidity fromAst ext.falseExt ext.trueExt ext.pkK ext.pkH ext.multi ext.multiA
+    ext.sha256 ext.hash256 ext.ripemd160 ext.hash160 ext.after ext.older ext.castAlt ext.castSwap ext.castCheck
+    ext.castDupif ext.castVerify ext.castNonzero ext.castZeronotequal ext.castTrue ext.castUnlikely ext.castLikely
+    ext.andB ext.andV ext.orB ext.orC ext.orD ext.orI ext.andOr
+    cost.orB cost.orC cost.orD cost.orI cost.andOr cost.threshold cost.plusAll
+    threshold satisfied worst together tryFold sortBy insertBy lists.all lists.sum fragments threshOf
+    andBody andOrs fourOf orBody bestOf bests mostGaining othersAsW arranged keysOf foldAnds threshBody
+    add sub mul div lt eq le ofBits toBits ofInt
+right-h = refl
+
+pub answers-given : allRight answers ≡ true
+unfolding answers
+answers-given =
+    both-right part-a (part-b ++ (part-c ++ (part-d ++ (part-e ++ (part-f ++ (part-g ++ (part-h))))))) right-a
+    (both-right part-b (part-c ++ (part-d ++ (part-e ++ (part-f ++ (part-g ++ (part-h)))))) right-b
+    (both-right part-c (part-d ++ (part-e ++ (part-f ++ (part-g ++ (part-h))))) right-c
+    (both-right part-d (part-e ++ (part-f ++ (part-g ++ (part-h)))) right-d
+    (both-right part-e (part-f ++ (part-g ++ (part-h))) right-e
+    (both-right part-f (part-g ++ (part-h)) right-f
+    (both-right part-g (part-h) right-g
+    (right-h)))))))

@@ -1,0 +1,2 @@
+-- The answers of the Rust, given by the definition.
+pub mod AnswersGiven

@@ -1,0 +1,10 @@
+-- Laws of the definition of compile, from the bottom up; and the definition case by case, for proofs that keep it shut.
+pub mod SamePolicies
+pub mod Typed
+pub mod Keys
+pub mod Sorting
+pub mod Keeping
+pub mod Inserting
+pub mod Searching
+pub mod Compiling
+pub mod Steps

@@ -1,0 +1,298 @@
+-- Every candidate that is made of good ones is good: its tree is well-typed, of the type that it says, and has the figures that it says.
+use mathlib.Core.Bool.{Bool, true, false, _&&_, _||_}
+use mathlib.Core.List.{List, _∷_, map}
+use mathlib.Core.Option.{Option, some}
+use mathlib.Core.Path.{_≡_, refl, ap, _∙_}
+use Prim.Native.Nat.{ℕ}
+use lib.ListN.{length}
+use lib.Ieee.{Float}
+use Rattle.terms.specs.declared.Context.{Context}
+use Rattle.terms.specs.declared.Context.the-variants.{Segwitv0, Tap}
+use Rattle.terms.specs.Leaves.{LockKind, HashKind}
+use Rattle.types.specs.declared.«Type».{«Type»}
+use Rattle.types.specs.declared.TypeResult.{TypeResult}
+use Rattle.types.specs.declared.TypeResult.the-variants.{Ok, IllTyped}
+use Rattle.types.specs.declared.correctness.Base.{Base}
+use Rattle.types.specs.declared.correctness.Base.the-variants.{B, K, «V», W}
+use Rattle.types.specs.declared.correctness.Input.{Input}
+use Rattle.types.specs.declared.correctness.Input.the-variants.{Zero, One, Any, OneNonZero, AnyNonZero}
+use Rattle.types.specs.declared.correctness.Correctness.{Correctness}
+use Rattle.types.specs.declared.malleability.Dissat.{Dissat}
+use Rattle.types.specs.declared.malleability.Dissat.the-variants.{None, Unique, Unknown}
+use Rattle.types.specs.declared.malleability.Malleability.{Malleability}
+use Rattle.types.specs.CorrectnessRules as corr
+use Rattle.types.specs.MalleabilityRules as mall
+use Rattle.types.specs.TypeRules as type
+use Rattle.figures.specs.declared.ExtData.{ExtData}
+use Rattle.figures.specs.Rules as ext
+use Rattle.figures.specs.Validity.{fromAst}
+use Rattle.thresholds.specs.Threshold.{threshold}
+use Rattle.costs.specs.declared.Cost.{Cost}
+use Rattle.costs.specs.declared.Costed.{Costed}
+use Rattle.costs.specs.declared.Costed.the-variants as Costed
+use Rattle.costs.specs.Rules as cost
+use Rattle.trees.specs.Fragment.{Fragment, Thresh}
+use Rattle.trees.specs.Typing.{typeOf, typesOf, allTyped, andAll}
+use Rattle.trees.specs.Typing as typing
+use Rattle.compilation.specs.Candidates.{Candidate, Made, typedAs, madeAs, ifValid}
+use Rattle.compilation.specs.Candidates.{Cast, castCheck, castDupif, castLikely, castUnlikely, castVerify, castNonzero, castTrue}
+use Rattle.compilation.specs.Candidates.{castSwap, castAlt, castZeronotequal, allCasts}
+use Rattle.compilation.specs.Candidates.{false′, true′, pkK, pkH, lock, hash, multi, Pair, andB, andV, orB, orD, orC, orI, andOr}
+use Rattle.compilation.specs.Candidates.{fragments, threshOf}
+use Rattle.laws.specs.Laws.{figuresOf, figuresOfAll, Good, All, nobody, _and_}
+use Rattle.laws.specs.Laws.{IfSome, noneIs, someIs, IfMade, passedIs, missingIs, madeIs}
+
+-- ---- leaves
+
+pub false-good : (c : Context) → Good c false′
+unfolding typeOf figuresOf
+false-good c = record { typed = refl; figured = refl }
+
+pub true-good : (c : Context) → Good c true′
+unfolding typeOf figuresOf
+true-good c = record { typed = refl; figured = refl }
+
+pub pkK-good : (c : Context) (n : ℕ) → Good c (pkK c n)
+unfolding typeOf figuresOf
+pkK-good c n = record { typed = refl; figured = refl }
+
+pub pkH-good : (c : Context) (n : ℕ) → Good c (pkH c n)
+unfolding typeOf figuresOf
+pkH-good c n = record { typed = refl; figured = refl }
+
+pub lock-good : (c : Context) (kind : LockKind) (n : ℕ) → Good c (lock kind n)
+unfolding typeOf figuresOf
+lock-good c kind n = record { typed = refl; figured = refl }
+
+pub hash-good : (c : Context) (kind : HashKind) (h : ℕ) → Good c (hash kind h)
+unfolding typeOf figuresOf
+hash-good c kind h = record { typed = refl; figured = refl }
+
+-- each context has the form of its own
+pub multi-good : (c : Context) (k : ℕ) (keys : List ℕ) → Good c (multi c k keys)
+unfolding typeOf figuresOf
+multi-good Segwitv0 k keys = record { typed = refl; figured = refl }
+multi-good Tap k keys = record { typed = refl; figured = refl }
+
+-- ---- casts
+
+bind-ok : {r : TypeResult} {t : «Type»} (rule : «Type» → TypeResult) → r ≡ Ok t → typing._>>=_ r rule ≡ rule t
+bind-ok rule e = ap (λ r. typing._>>=_ r rule) e
+
+typed-as : {c : Context} (r : TypeResult) (f : Fragment) (e : ExtData) (k : Cost) →
+    typeOf c f ≡ r → e ≡ figuresOf c f → IfSome (Good c) (typedAs r f e k)
+typed-as (Ok t) f e k p q = someIs (record { typed = p; figured = q })
+typed-as IllTyped f e k p q = noneIs
+
+-- the three casts that are pairs with a constant have its type
+
+and-true : (b : Bool) → b && true ≡ b
+and-true true = refl
+and-true false = refl
+
+or-true : (b : Bool) → b || true ≡ true
+or-true true = refl
+or-true false = refl
+
+or-false : (b : Bool) → b || false ≡ b
+or-false true = refl
+or-false false = refl
+
+likely-corr : (x : Correctness) → corr.orI corr.FALSE x ≡ corr.castOrIFalse x
+likely-corr x = by-base (x .base)
+  where
+    by-base : (b : Base) →
+        corr.orI corr.FALSE (corr.correctness b (x .input) (x .dissatisfiable) (x .unit))
+        ≡ corr.castOrIFalse (corr.correctness b (x .input) (x .dissatisfiable) (x .unit))
+    by-base B = refl
+    by-base K = refl
+    by-base «V» = refl
+    by-base W = refl
+
+likely-mall : (x : Malleability) → mall.orI mall.FALSE x ≡ mall.castOrIFalse x
+likely-mall x = simp and-true
+
+likely-type : (t : «Type») → type.orI type.FALSE t ≡ type.castLikely t
+likely-type t = rw (likely-corr (t .corr), likely-mall (t .mall))
+
+unlikely-corr : (x : Correctness) → corr.orI x corr.FALSE ≡ corr.castOrIFalse x
+unlikely-corr x = by-base (x .base)
+  where
+    by-base : (b : Base) →
+        corr.orI (corr.correctness b (x .input) (x .dissatisfiable) (x .unit)) corr.FALSE
+        ≡ corr.castOrIFalse (corr.correctness b (x .input) (x .dissatisfiable) (x .unit))
+    by-base B = simp (and-true, or-true)
+    by-base K = refl
+    by-base «V» = refl
+    by-base W = refl
+
+unlikely-mall : (x : Malleability) → mall.orI x mall.FALSE ≡ mall.castOrIFalse x
+unlikely-mall x = by-dissat (x .dissat)
+  where
+    by-dissat : (d : Dissat) →
+        mall.orI (mall.malleability d (x .safe) (x .«non_malleable»)) mall.FALSE
+        ≡ mall.castOrIFalse (mall.malleability d (x .safe) (x .«non_malleable»))
+    by-dissat None = simp (and-true, or-true)
+    by-dissat Unique = simp (and-true, or-true)
+    by-dissat Unknown = simp (and-true, or-true)
+
+unlikely-type : (t : «Type») → type.orI t type.FALSE ≡ type.castUnlikely t
+unlikely-type t = rw (unlikely-corr (t .corr), unlikely-mall (t .mall))
+
+true-corr : (x : Correctness) → corr.andV x corr.TRUE ≡ corr.castTrue x
+true-corr x = by-input (x .input)
+  where
+    by-input : (i : Input) →
+        corr.andV (corr.correctness (x .base) i (x .dissatisfiable) (x .unit)) corr.TRUE
+        ≡ corr.castTrue (corr.correctness (x .base) i (x .dissatisfiable) (x .unit))
+    by-input Zero = simp and-true
+    by-input One = simp and-true
+    by-input Any = simp and-true
+    by-input OneNonZero = simp and-true
+    by-input AnyNonZero = simp and-true
+
+true-mall : (x : Malleability) → mall.andV x mall.TRUE ≡ mall.castTrue x
+true-mall x = simp (and-true, or-false)
+
+true-type : (t : «Type») → type.andV t type.TRUE ≡ type.castTrue t
+true-type t = rw (true-corr (t .corr), true-mall (t .mall))
+
+module _ {c : Context} {x : Candidate} (g : Good c x) where
+  pub check-good : IfSome (Good c) (castCheck x)
+  unfolding typeOf figuresOf
+  check-good = typed-as _ _ _ _ (bind-ok type.castCheck (g .typed)) (ap ext.castCheck (g .figured))
+
+  pub dupif-good : IfSome (Good c) (castDupif x)
+  unfolding typeOf figuresOf
+  dupif-good = typed-as _ _ _ _ (bind-ok type.castDupif (g .typed)) (ap ext.castDupif (g .figured))
+
+  pub likely-good : IfSome (Good c) (castLikely x)
+  unfolding typeOf figuresOf ext.castLikely
+  likely-good =
+      typed-as _ _ _ _ (bind-ok (λ t. type.orI type.FALSE t) (g .typed) ∙ likely-type (x .ty)) (ap (λ e. ext.orI ext.falseExt e) (g .figured))
+
+  pub unlikely-good : IfSome (Good c) (castUnlikely x)
+  unfolding typeOf figuresOf ext.castUnlikely
+  unlikely-good =
+      typed-as _ _ _ _ (bind-ok (λ t. type.orI t type.FALSE) (g .typed) ∙ unlikely-type (x .ty)) (ap (λ e. ext.orI e ext.falseExt) (g .figured))
+
+  pub verify-good : IfSome (Good c) (castVerify x)
+  unfolding typeOf figuresOf
+  verify-good = typed-as _ _ _ _ (bind-ok type.castVerify (g .typed)) (ap ext.castVerify (g .figured))
+
+  pub nonzero-good : IfSome (Good c) (castNonzero x)
+  unfolding typeOf figuresOf
+  nonzero-good = typed-as _ _ _ _ (bind-ok type.castNonzero (g .typed)) (ap ext.castNonzero (g .figured))
+
+  pub true-cast-good : IfSome (Good c) (castTrue x)
+  unfolding typeOf figuresOf ext.castTrue
+  true-cast-good =
+      typed-as _ _ _ _ (bind-ok (λ t. type.andV t type.TRUE) (g .typed) ∙ true-type (x .ty)) (ap (λ e. ext.andV e ext.trueExt) (g .figured))
+
+  pub swap-good : IfSome (Good c) (castSwap x)
+  unfolding typeOf figuresOf
+  swap-good = typed-as _ _ _ _ (bind-ok type.castSwap (g .typed)) (ap ext.castSwap (g .figured))
+
+  pub alt-good : IfSome (Good c) (castAlt x)
+  unfolding typeOf figuresOf
+  alt-good = typed-as _ _ _ _ (bind-ok type.castAlt (g .typed)) (ap ext.castAlt (g .figured))
+
+  pub zeronotequal-good : IfSome (Good c) (castZeronotequal x)
+  unfolding typeOf figuresOf
+  zeronotequal-good = typed-as _ _ _ _ (bind-ok type.castZeronotequal (g .typed)) (ap ext.castZeronotequal (g .figured))
+
+-- a cast makes a good candidate of a good one, if it makes one
+abbrev pub CastsWell : Context → Cast → Type 0
+CastsWell c f = (x : Candidate) → Good c x → IfSome (Good c) (f x)
+
+pub casts-good : (c : Context) → All (CastsWell c) allCasts
+casts-good c =
+    (λ x g. check-good g) and (λ x g. dupif-good g) and (λ x g. likely-good g) and (λ x g. unlikely-good g) and (λ x g. verify-good g)
+    and (λ x g. nonzero-good g) and (λ x g. true-cast-good g) and (λ x g. swap-good g) and (λ x g. alt-good g) and (λ x g. zeronotequal-good g)
+    and nobody
+
+-- ---- pairs and triples
+
+made-as : {c : Context} (r : TypeResult) (f : Fragment) (e : ExtData) (k : Costed) →
+    typeOf c f ≡ r → e ≡ figuresOf c f → IfMade (Good c) (madeAs r f e k)
+made-as (Ok t) f e (Costed.Cost k) p q = madeIs (record { typed = p; figured = q })
+made-as (Ok t) f e Costed.Missing p q = missingIs
+made-as IllTyped f e k p q = passedIs
+
+-- a pair of good candidates is good, if it is made, whatever the weights
+abbrev pub PairsWell : Context → Pair → Type 0
+PairsWell c f = (lw rw : Float) (x y : Candidate) → Good c x → Good c y → IfMade (Good c) (f lw rw x y)
+
+bind-ok₂ : {r s : TypeResult} {t u : «Type»} (rule : «Type» → «Type» → TypeResult) → r ≡ Ok t → s ≡ Ok u →
+    typing._>>=_ r (λ t. typing._>>=_ s λ u. rule t u) ≡ rule t u
+bind-ok₂ rule p q = rw (p, q)
+
+figures₂ : {d e d′ e′ : ExtData} (rule : ExtData → ExtData → ExtData) → d ≡ d′ → e ≡ e′ → rule d e ≡ rule d′ e′
+figures₂ rule p q = cc
+
+module _ {c : Context} (lw rw : Float) (x y : Candidate) (g : Good c x) (h : Good c y) where
+  pub andB-good : IfMade (Good c) (andB lw rw x y)
+  unfolding typeOf figuresOf
+  andB-good = made-as _ _ _ _ (bind-ok₂ type.andB (g .typed) (h .typed)) (figures₂ ext.andB (g .figured) (h .figured))
+
+  pub andV-good : IfMade (Good c) (andV lw rw x y)
+  unfolding typeOf figuresOf
+  andV-good = made-as _ _ _ _ (bind-ok₂ type.andV (g .typed) (h .typed)) (figures₂ ext.andV (g .figured) (h .figured))
+
+  pub orB-good : IfMade (Good c) (orB lw rw x y)
+  unfolding typeOf figuresOf
+  orB-good = made-as _ _ _ _ (bind-ok₂ type.orB (g .typed) (h .typed)) (figures₂ ext.orB (g .figured) (h .figured))
+
+  pub orD-good : IfMade (Good c) (orD lw rw x y)
+  unfolding typeOf figuresOf
+  orD-good = made-as _ _ _ _ (bind-ok₂ type.orD (g .typed) (h .typed)) (figures₂ ext.orD (g .figured) (h .figured))
+
+  pub orC-good : IfMade (Good c) (orC lw rw x y)
+  unfolding typeOf figuresOf
+  orC-good = made-as _ _ _ _ (bind-ok₂ type.orC (g .typed) (h .typed)) (figures₂ ext.orC (g .figured) (h .figured))
+
+  pub orI-good : IfMade (Good c) (orI lw rw x y)
+  unfolding typeOf figuresOf
+  orI-good = made-as _ _ _ _ (bind-ok₂ type.orI (g .typed) (h .typed)) (figures₂ ext.orI (g .figured) (h .figured))
+
+bind-ok₃ : {r s u : TypeResult} {t v w : «Type»} (rule : «Type» → «Type» → «Type» → TypeResult) → r ≡ Ok t → s ≡ Ok v → u ≡ Ok w →
+    typing._>>=_ r (λ t. typing._>>=_ s λ v. typing._>>=_ u λ w. rule t v w) ≡ rule t v w
+bind-ok₃ rule p q r = rw (p, q, r)
+
+figures₃ : {d e f d′ e′ f′ : ExtData} (rule : ExtData → ExtData → ExtData → ExtData) → d ≡ d′ → e ≡ e′ → f ≡ f′ → rule d e f ≡ rule d′ e′ f′
+figures₃ rule p q r = cc
+
+pub andOr-good : {c : Context} (lw rw : Float) (x y z : Candidate) → Good c x → Good c y → Good c z → IfMade (Good c) (andOr lw rw x y z)
+unfolding typeOf figuresOf
+andOr-good lw rw x y z g h i =
+    made-as _ _ _ _ (bind-ok₃ type.andOr (g .typed) (h .typed) (i .typed)) (figures₃ ext.andOr (g .figured) (h .figured) (i .figured))
+
+-- ---- thresholds
+
+types-of : {c : Context} {xs : List Candidate} → All (Good c) xs → typesOf c (fragments xs) ≡ some (map (λ x. x .ty) xs)
+unfolding typeOf fragments
+types-of nobody = refl
+types-of (g and gs) = both _ _ (g .typed) (types-of gs)
+  where
+    both : {t : «Type»} {ts : List «Type»} (r : TypeResult) (rs : Option (List «Type»)) → r ≡ Ok t → rs ≡ some ts → andAll r rs ≡ some (t ∷ ts)
+    both r rs p q = rw (p, q)
+
+figures-of : {c : Context} {xs : List Candidate} → All (Good c) xs → map (λ x. x .ext) xs ≡ figuresOfAll c (fragments xs)
+unfolding figuresOf fragments
+figures-of nobody = refl
+figures-of (g and gs) = both (g .figured) (figures-of gs)
+  where
+    both : {e d : ExtData} {es ds : List ExtData} → e ≡ d → es ≡ ds → e ∷ es ≡ d ∷ ds
+    both p q = cc
+
+if-valid : {P : Candidate → Type 0} {m : Made} (b : Bool) → IfMade P m → IfMade P (ifValid b m)
+if-valid true h = h
+if-valid false h = passedIs
+
+pub thresh-good : {c : Context} (k : ℕ) (xs : List Candidate) → All (Good c) xs → IfMade (Good c) (threshOf c k xs)
+unfolding threshOf typeOf figuresOf
+thresh-good {c} k xs gs =
+    if-valid (fromAst c 0 (threshold k (map (λ x. x .ext) xs)))
+    (made-as (type.threshold k (map (λ x. x .ty) xs)) (Thresh k (fragments xs)) (threshold k (map (λ x. x .ext) xs))
+    (cost.threshold k (length xs) (map (λ x. x .cost) xs))
+    (ap (λ r. allTyped r λ ts. type.threshold k ts) (types-of gs)) (ap (threshold k) (figures-of gs)))

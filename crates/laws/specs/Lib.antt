@@ -1,0 +1,2 @@
+-- What the laws of compile speak of.
+pub mod Laws
