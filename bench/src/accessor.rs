@@ -41,3 +41,52 @@ pub fn cost_rule<Ctx: ScriptContext>(name: &str) -> Option<Pair> {
     };
     Some((rule.sat_cost, rule.dissat_cost))
 }
+
+fn data((sat_cost, dissat_cost): Pair, branch_prob: Option<f64>) -> CompilerExtData {
+    CompilerExtData { branch_prob, sat_cost, dissat_cost }
+}
+
+fn pair(x: CompilerExtData) -> Pair {
+    (x.sat_cost, x.dissat_cost)
+}
+
+/// The cost of a cast, by document 01's number of it.
+pub fn cost_cast(number: u32, x: Pair) -> Pair {
+    let casts = [
+        CompilerExtData::cast_check,
+        CompilerExtData::cast_dupif,
+        CompilerExtData::cast_likely,
+        CompilerExtData::cast_unlikely,
+        CompilerExtData::cast_verify,
+        CompilerExtData::cast_nonzero,
+        CompilerExtData::cast_true,
+        CompilerExtData::cast_swap,
+        CompilerExtData::cast_alt,
+        CompilerExtData::cast_zeronotequal,
+    ];
+    pair(casts[number as usize](data(x, None)))
+}
+
+/// The cost of a pair, by its kind, at the weights of its sides.
+pub fn cost_pair(kind: u16, l: Pair, r: Pair, weights: [f64; 2]) -> Pair {
+    let (l, r) = (data(l, Some(weights[0])), data(r, Some(weights[1])));
+    pair(match kind {
+        49 => CompilerExtData::and_b(l, r),
+        50 => CompilerExtData::and_v(l, r),
+        51 => CompilerExtData::or_b(l, r),
+        52 => CompilerExtData::or_d(l, r),
+        53 => CompilerExtData::or_c(l, r),
+        _ => CompilerExtData::or_i(l, r),
+    })
+}
+
+/// The cost of an AndOr at the weights of its first two sides and of its third.
+pub fn cost_and_or(a: Pair, b: Pair, c: Pair, weights: [f64; 2]) -> Pair {
+    let first = Some(weights[0]);
+    pair(CompilerExtData::and_or(data(a, first), data(b, first), data(c, Some(weights[1]))))
+}
+
+/// The cost of a candidate at two probabilities.
+pub fn cost_at<Pk: MiniscriptKey, Ctx: ScriptContext>(ms: Miniscript<Pk, Ctx>, cost: Pair, sat: f64, dissat: Option<f64>) -> f64 {
+    AstElemExt { ms: Arc::new(ms), comp_ext_data: data(cost, None) }.cost_1d(sat, dissat)
+}

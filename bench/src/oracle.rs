@@ -134,12 +134,17 @@ pub fn hush_answers() {
     }));
 }
 
-/// Runs a copy of the compiler; a panic or a refusal of `room` comes back as its payload.
-fn guarded<T>(run: impl FnOnce() -> T) -> Result<T, Box<dyn Any + Send>> {
+/// Runs something whose panics are answers.
+pub fn while_answers<T>(run: impl FnOnce() -> T) -> T {
     RUNNING.with(|running| running.set(true));
-    let result = panic::catch_unwind(AssertUnwindSafe(run));
+    let result = run();
     RUNNING.with(|running| running.set(false));
     result
+}
+
+/// Runs a copy of the compiler; a panic or a refusal of `room` comes back as its payload.
+fn guarded<T>(run: impl FnOnce() -> T) -> Result<T, Box<dyn Any + Send>> {
+    while_answers(|| panic::catch_unwind(AssertUnwindSafe(run)))
 }
 
 /// The tree or the number: a missing dissatisfaction cost and an unordered cost are the Rust's panics, and NotACost here.

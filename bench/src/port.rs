@@ -7,6 +7,11 @@ extern "C" {
     fn claspwillow_check_work() -> usize;
 }
 
+#[cfg(probe)]
+extern "C" {
+    fn claspwillow_probe(context: u32, rule: u32, p: u64, q: u64, input: *const u64, input_len: usize, out: *mut u64, out_len: usize) -> u32;
+}
+
 /// The words of work memory that the check asks for.
 pub fn check_work() -> usize {
     // SAFETY: the function takes nothing.
@@ -17,4 +22,12 @@ pub fn check_work() -> usize {
 pub fn check(context: u32, tree: &[u8], work: &mut [u64], ty: &mut u32) -> u32 {
     // SAFETY: each slice is passed as its own pointer and length.
     unsafe { claspwillow_check(context, tree.as_ptr(), tree.len(), work.as_mut_ptr(), work.len(), slice::from_mut(ty).as_mut_ptr()) }
+}
+
+/// One rule on candidates given as words (crate `probe`): its number, and what it left in `out`.
+#[cfg(probe)]
+pub fn probe(context: u32, rule: u32, weights: [u64; 2], input: &[u64], out: &mut [u64]) -> u32 {
+    let [p, q] = weights;
+    // SAFETY: each slice is passed as its own pointer and length.
+    unsafe { claspwillow_probe(context, rule, p, q, input.as_ptr(), input.len(), out.as_mut_ptr(), out.len()) }
 }

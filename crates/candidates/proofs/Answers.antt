@@ -44,8 +44,8 @@ module _ (row : casts.Row) (x : Candidate) (node : ℕ) {r : TypeResult} (said :
 
 -- a number that is none of those of the casts
 abbrev NoCast : ℕ → Type 0
-NoCast number =
-    (((((((((Unit {0} × number ≢ 0) × number ≢ 1) × number ≢ 2) × number ≢ 3) × number ≢ 4) × number ≢ 5) × number ≢ 6) × number ≢ 7) × number ≢ 8) × number ≢ 9
+NoCast n =
+    (((((((((Unit {0} × n ≢ 0) × n ≢ 1) × n ≢ 2) × n ≢ 3) × n ≢ 4) × n ≢ 5) × n ≢ 6) × n ≢ 7) × n ≢ 8) × n ≢ 9
 
 pub cast-unknown : (number : ℕ) (x : Candidate) (node : ℕ) → NoCast number → Unknown ≡ castOf number x node
 unfolding castFrom

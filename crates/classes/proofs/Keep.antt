@@ -1,17 +1,16 @@
 -- Finding a class, and storing it: a store at a number's place leaves what every number stands for. Assumes nothing.
 use mathlib.Core.Path.{_≡_, refl, sym, _∙_, ap, subst}
 use mathlib.Core.Bool.{Bool, true, false, cond}
-use mathlib.Core.List.{List, [], _∷_}
-use Prim.Native.Nat.{ℕ, zero, suc, _+_, _*_, _-_, _/_, _%_, _<_, _≤_}
+use mathlib.Core.List.{List}
+use Prim.Native.Nat.{ℕ, zero, suc, _+_, _*_, _-_, _<_, _≤_}
 use native.Mathlib.Omega.{arith}
-use borrow.Author.Tests.{lt-ltb, le-ltb, ltb-true, ltb-false, eqb-true, eqb-false}
+use borrow.Author.Tests.{lt-ltb, ltb-true, ltb-false, eqb-true, eqb-false}
 use lib.Dec.{ltb, eqb}
 use lib.ListN.{length, getD, set, length-set, List·getD-eq-default}
 use lib.Seq.{getD-set-same, getD-set-other}
-use Rattle.policies.specs.Policy.{Policy, Unsatisfiable, And}
-use Rattle.policies.specs.Forms.{nth}
-use Rattle.policies.specs.Array.{wordAt, kindAt, childAt, countAt, policies, recordPolicy, andPolicy, policyAt, ofRecord, place, andNumber}
-use Rattle.policies.specs.Array.{Rows, Good, Named, stored, folds}
+use Rattle.policies.specs.Policy.{Unsatisfiable}
+use Rattle.policies.specs.Array.{childAt, countAt, policies, recordPolicy, andPolicy, policyAt, ofRecord, place}
+use Rattle.policies.specs.Array.{Good, Named, stored, folds}
 use Rattle.policies.proofs.Views.{length-policies}
 use Rattle.policies.proofs.Slots.{record-same}
 use Rattle.classes.specs.Classes.{Decides, Stands, Least, classPlace, classAt, Kept, ClassPut, Classified}

@@ -3,17 +3,17 @@ use mathlib.Core.Path.{_≡_, refl, sym, _∙_, ap, subst}
 use mathlib.Core.Bool.{Bool, true, false}
 use mathlib.Core.List.{List}
 use mathlib.Core.Option.{some}
-use Prim.Native.Nat.{ℕ, _<_, _≤_}
+use Prim.Native.Nat.{ℕ, _<_}
 use native.Mathlib.Omega.{arith}
 use borrow.Author.Tests.{ltb-true, ltb-false}
 use lib.Dec.{ltb}
-use Rattle.policies.specs.Reading.{Answer, done}
+use Rattle.policies.specs.Reading.{done}
 use Rattle.policies.specs.Policy.{Policy}
 use Rattle.policies.specs.Array.{policyAt, Good, Named}
-use Rattle.policies.specs.Answers.{PolicyGood, Read, PolicyRead, reads, bad-array}
+use Rattle.policies.specs.Answers.{PolicyGood, PolicyRead, reads, bad-array}
 use Rattle.policies.specs.declared.ReadPolicy.{ReadPolicy}
 use Rattle.policies.specs.declared.ReadPolicy.the-variants as ReadPolicy
-use Rattle.classes.specs.Classes.{Stands, Least, classAt, Classes, Classified, ClassesGood, ClassesRead}
+use Rattle.classes.specs.Classes.{Least, classAt, Classes, Classified, ClassesGood, ClassesRead}
 
 not-less : (m : List ℕ) (r q c d : ℕ) → policyAt m r ≡ policyAt m q → Least m r c → Least m q d → c < d → ⊥
 not-less m r q c d e l k h = k .least c h (record { named = l .stands .named; same = l .stands .same ∙ e })

@@ -1,8 +1,8 @@
 -- Numbers that stand for policies, and the places of their classes in the array. Assumes nothing.
-use mathlib.Core.Path.{_≡_, refl, sym, _∙_, ap, subst}
-use mathlib.Core.Bool.{Bool, true, false, cond}
-use mathlib.Core.List.{List, [], _∷_}
-use Prim.Native.Nat.{ℕ, zero, suc, _+_, _*_, _-_, _/_, _%_, _<_, _≤_}
+use mathlib.Core.Path.{_≡_, refl, sym, _∙_, ap}
+use mathlib.Core.Bool.{Bool, true, false}
+use mathlib.Core.List.{List}
+use Prim.Native.Nat.{ℕ, _+_, _-_, _<_, _≤_}
 use native.Mathlib.Omega.{arith}
 use borrow.Author.Tests.{lt-ltb, le-ltb, ltb-true, ltb-false}
 use lib.Dec.{ltb}
@@ -11,7 +11,7 @@ use Rattle.policies.specs.Policy.{Policy}
 use Rattle.policies.specs.Forms.{childrenOf}
 use Rattle.policies.specs.Heads.{headOf}
 use Rattle.policies.specs.declared.Head.{Head}
-use Rattle.policies.specs.Array.{countAt, policyAt, recordPolicy, andNumber, ofRecord, place, Good, Named, stored, folds}
+use Rattle.policies.specs.Array.{countAt, policyAt, andNumber, ofRecord, place, Good, Named, stored, folds}
 use Rattle.policies.proofs.Views.{stored-is, stored-count}
 use Rattle.classes.specs.Classes.{Decides, classPlace, classAt}
 use Rattle.classes.proofs.Equal.{decides-yes, decides-no}

@@ -3,14 +3,14 @@
 use mathlib.Core.Bool.{Bool, true, false, cond}
 use mathlib.Core.List.{List}
 use mathlib.Core.Path.{_≡_}
-use Prim.Native.Nat.{ℕ, _+_, _*_, _<_, _≤_}
+use Prim.Native.Nat.{ℕ, _+_, _*_, _<_}
 use lib.Dec.{ltb}
 use lib.ListN.{length, getD}
 use Rattle.policies.specs.Reading.{maxRecords}
 use Rattle.policies.specs.Answers.{PolicyRead}
 use Rattle.policies.specs.declared.ReadPolicy.{ReadPolicy}
 use Rattle.policies.specs.declared.ReadPolicy.the-variants as ReadPolicy
-use Rattle.policies.specs.Array.{rowWords, maxChildren, ofRecord, place, wordAt, policyAt, Good, Named}
+use Rattle.policies.specs.Array.{rowWords, ofRecord, place, wordAt, policyAt, Good, Named}
 
 -- an answer decides a fact
 pub record Decides (r : Bool) (A : Type 0) : Type 0 where

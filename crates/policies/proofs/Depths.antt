@@ -1,5 +1,5 @@
 -- The depth of a record, child by child. Assumes nothing.
-use mathlib.Core.Path.{_≡_, refl, sym, _∙_, ap, subst}
+use mathlib.Core.Path.{_≡_, refl, sym, _∙_, ap}
 use mathlib.Core.Bool.{Bool, true, false}
 use mathlib.Core.List.{List, [], _∷_, map}
 use Prim.Native.Nat.{ℕ, zero, suc, _+_, _*_, _-_, _<_, _≤_, max}
@@ -13,7 +13,7 @@ use lib.Seq.{drop-cons}
 use Rattle.policies.specs.Policy.{Policy, Policies, Unsatisfiable, Trivial, Key, Lock, Hash, And, Or, Thresh, end, _▹_, toList, depth}
 use Rattle.policies.specs.Policy.{deepest, weight}
 use Rattle.policies.specs.Forms.{nth, childrenOf}
-use Rattle.policies.specs.Array.{wordsFrom, childrenAt, childAt, countAt, recordPolicy, policyAt, Good, Named, stored, childNumber}
+use Rattle.policies.specs.Array.{wordsFrom, childrenAt, countAt, recordPolicy, policyAt, Good, stored, childNumber}
 use Rattle.policies.specs.declared.Head.{Head}
 use Rattle.policies.specs.Heads.{headOf}
 use Rattle.policies.proofs.Views.{stored-is, stored-children, stored-below, child-is, child-falls}

@@ -1,24 +1,22 @@
 -- What a policy's payload has by the kind of its record. Assumes nothing.
-use mathlib.Core.Path.{_≡_, refl, sym, _∙_, ap, subst}
-use mathlib.Core.Bool.{Bool, true, false}
-use mathlib.Core.List.{List, [], _∷_}
-use mathlib.Core.Option.{Option, none, some}
-use Prim.Native.Nat.{ℕ, zero, suc, _+_, _<_, _≤_}
+use mathlib.Core.Path.{_≡_, refl, sym, _∙_, ap}
+use mathlib.Core.List.{List}
+use mathlib.Core.Option.{some}
+use Prim.Native.Nat.{ℕ, _≤_}
 use native.Mathlib.Omega.{arith}
 use borrow.Author.Tests.{leb-true, ne-eqb}
-use lib.Dec.{eqb, leb}
+use lib.Dec.{leb}
 use lib.ListN.{length}
 use Rattle.records.specs.Shapes.{shapeOf}
-use Rattle.records.specs.Payloads.{Payload, nothing, number, children, weighted, threshold, payloadOf, numberOf, kOf, childrenOf, countOf}
+use Rattle.records.specs.Payloads.{Payload, nothing, number, payloadOf, kOf, childrenOf, countOf}
 use Rattle.records.specs.RecordForm.{kindOf, policyPayload}
 use Rattle.records.specs.declared.Shape.{Shape}
-use Rattle.records.specs.declared.Shape.the-variants as Shape
 use Rattle.records.proofs.Forms.{and-left, and-right}
 use Rattle.records.proofs.KindRanges.{shapes-in}
 use Rattle.records.proofs.Laws.{policy-record, of-policy, is-nothing, is-number, is-lock, is-two-children, is-weighted, is-threshold}
 use Rattle.records.proofs.Laws.{threshold-bounds}
 use Rattle.policies.specs.Array.{arity}
-use Rattle.policies.proofs.Ranges.{Each, each}
+use Rattle.policies.proofs.Ranges.{each}
 
 -- it has as many children as its kind says and no keys, at most sixteen, and of a Thresh 1 ≤ k ≤ n
 pub record Fit (kind : ℕ) (p : Payload) : Type 0 where

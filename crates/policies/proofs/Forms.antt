@@ -2,7 +2,7 @@
 use mathlib.Core.Path.{_≡_, refl, sym, _∙_, ap, subst}
 use mathlib.Core.Bool.{Bool, true, false, cond}
 use mathlib.Core.List.{List, [], _∷_}
-use Prim.Native.Nat.{ℕ, zero, suc, _+_, _<_, _≤_}
+use Prim.Native.Nat.{ℕ, _<_, _≤_}
 use native.Mathlib.Omega.{arith}
 use borrow.Author.Tests.{ne-eqb, eqb-true}
 use lib.Dec.{eqb}
@@ -10,10 +10,10 @@ use lib.ListN.{length}
 use Rattle.policies.specs.Policy.{Policy, Policies, After, Older, Sha256, Hash256, Ripemd160, Hash160, end, _▹_, toList, fromList}
 use Rattle.policies.specs.Policy.{Unsatisfiable, Trivial, Key, Lock, Hash, And, Or, Thresh}
 use Rattle.policies.specs.Forms.{made, nth, kindOf, numberOf, kOf, leftWeightOf, rightWeightOf, childrenOf}
-use Rattle.policies.specs.Heads.{headOf}
+use Rattle.policies.specs.Heads.{headOf, leafHead, pairHead}
 use Rattle.policies.specs.Array.{arity}
 use Rattle.policies.specs.declared.Head.{Head}
-use Rattle.policies.proofs.Ranges.{Each, each}
+use Rattle.policies.proofs.Ranges.{each}
 
 pub to-from : (xs : List Policy) → toList (fromList xs) ≡ xs
 unfolding toList fromList
@@ -128,27 +128,20 @@ thresh-made kind number k left right cs e = by-test (eqb kind 12) refl
 
 -- ---- the head of what is made, by kinds
 
-abbrev pub andHead : Head
-andHead = record { kind = 10; number = 0; k = 0; count = 2; «left_weight» = 0; «right_weight» = 0 }
-
 module _ (number k n leftWeight rightWeight : ℕ) where
   -- the head h is the one of every policy made with so many children
   abbrev pub Heads : ℕ → Head → Type 0
   Heads kind h = (cs : List Policy) → length cs ≡ arity kind n → h ≡ headOf (made kind number k leftWeight rightWeight cs)
 
-  abbrev pub plain : ℕ → Head
-  plain kind = record { kind = kind; number = 0; k = 0; count = 0; «left_weight» = 0; «right_weight» = 0 }
-
-  pub trivial-head : (kind : ℕ) → kind ≡ 2 → Heads kind (plain 2)
+  pub trivial-head : (kind : ℕ) → kind ≡ 2 → Heads kind (leafHead 2 0)
   unfolding made kindOf numberOf kOf leftWeightOf rightWeightOf childrenOf
-  trivial-head kind e = subst (λ (x : ℕ). Heads x (plain 2)) (sym e) (λ cs l. refl)
+  trivial-head kind e = subst (λ (x : ℕ). Heads x (leafHead 2 0)) (sym e) (λ cs l. refl)
 
-  pub number-head : (kind : ℕ) → 3 ≤ kind → kind ≤ 9
-      → Heads kind (record { kind = kind; number = number; k = 0; count = 0; «left_weight» = 0; «right_weight» = 0 })
+  pub number-head : (kind : ℕ) → 3 ≤ kind → kind ≤ 9 → Heads kind (leafHead kind number)
   unfolding made kindOf numberOf kOf leftWeightOf rightWeightOf childrenOf
   number-head kind l u =
       each
-      (λ (x : ℕ). Heads x (record { kind = x; number = number; k = 0; count = 0; «left_weight» = 0; «right_weight» = 0 }))
+      (λ (x : ℕ). Heads x (leafHead x number))
       3
       7
       (λ cs l. refl, (λ cs l. refl, (λ cs l. refl, (λ cs l. refl, (λ cs l. refl, (λ cs l. refl, (λ cs l. refl, tt)))))))
@@ -156,29 +149,24 @@ module _ (number k n leftWeight rightWeight : ℕ) where
       l
       (omega arith)
 
-  pub and-head : (kind : ℕ) → kind ≡ 10 → Heads kind andHead
+  pub and-head : (kind : ℕ) → kind ≡ 10 → Heads kind (pairHead 10 0 0)
   unfolding made kindOf numberOf kOf leftWeightOf rightWeightOf childrenOf
-  and-head kind e = subst (λ (x : ℕ). Heads x andHead) (sym e) (λ cs l. refl)
+  and-head kind e = subst (λ (x : ℕ). Heads x (pairHead 10 0 0)) (sym e) (λ cs l. refl)
 
-  abbrev pub orHead : Head
-  orHead = record { kind = 11; number = 0; k = 0; count = 2; «left_weight» = leftWeight; «right_weight» = rightWeight }
-
-  pub or-head : (kind : ℕ) → kind ≡ 11 → Heads kind orHead
+  pub or-head : (kind : ℕ) → kind ≡ 11 → Heads kind (pairHead 11 leftWeight rightWeight)
   unfolding made kindOf numberOf kOf leftWeightOf rightWeightOf childrenOf
-  or-head kind e = subst (λ (x : ℕ). Heads x orHead) (sym e) (λ cs l. refl)
+  or-head kind e = subst (λ (x : ℕ). Heads x (pairHead 11 leftWeight rightWeight)) (sym e) (λ cs l. refl)
 
-  abbrev pub threshHead : Head
-  threshHead = record { kind = 12; number = 0; k = k; count = n; «left_weight» = 0; «right_weight» = 0 }
+  threshHead : ℕ → Head
+  threshHead c = record { kind = 12; number = 0; k = k; count = c; «left_weight» = 0; «right_weight» = 0 }
 
-  pub thresh-head : (kind : ℕ) → kind ≡ 12 → Heads kind threshHead
-  unfolding made kindOf numberOf kOf leftWeightOf rightWeightOf childrenOf
-  thresh-head kind e = subst (λ (x : ℕ). Heads x threshHead) (sym e) λ cs l. ap counted (sym (ap length (to-from cs) ∙ l))
-    where
-      counted : ℕ → Head
-      counted c = record { kind = 12; number = 0; k = k; count = c; «left_weight» = 0; «right_weight» = 0 }
+  pub thresh-head : (kind : ℕ) → kind ≡ 12
+      → Heads kind (record { kind = 12; number = 0; k = k; count = n; «left_weight» = 0; «right_weight» = 0 })
+  unfolding threshHead made kindOf numberOf kOf leftWeightOf rightWeightOf childrenOf
+  thresh-head kind e = subst (λ (x : ℕ). Heads x (threshHead n)) (sym e) λ cs l. ap threshHead (sym (ap length (to-from cs) ∙ l))
 
   -- any other number makes Unsatisfiable
-  pub other-head : (kind : ℕ) → (2 ≤ kind → kind ≤ 12 → ⊥) → Heads kind (plain 1)
+  pub other-head : (kind : ℕ) → (2 ≤ kind → kind ≤ 12 → ⊥) → Heads kind (leafHead 1 0)
   unfolding made kindOf numberOf kOf leftWeightOf rightWeightOf childrenOf
   other-head kind out cs l =
       let ne : (x : ℕ) → 2 ≤ x → x ≤ 12 → eqb kind x ≡ false =

@@ -1,13 +1,13 @@
 -- The records of some bytes, one by one: what is still to come of the reading gives what the reading of all gives. Assumes nothing.
-use mathlib.Core.Path.{_≡_, refl, sym, _∙_, ap, subst}
-use mathlib.Core.Bool.{Bool, true, false, cond}
+use mathlib.Core.Path.{_≡_, refl, sym, _∙_, ap}
+use mathlib.Core.Bool.{Bool, true, false}
 use mathlib.Core.List.{List, [], _∷_, _++_}
 use mathlib.Core.Option.{Option, none, some}
-use Prim.Native.Nat.{ℕ, zero, suc, _+_, _*_, _-_, _<_, _≤_}
+use Prim.Native.Nat.{ℕ, zero, suc, _+_, _-_, _<_, _≤_}
 use native.Mathlib.Numerals.{add-one}
 use native.Mathlib.Omega.{arith}
-use lib.ListN.{length, getD, take, drop, length-drop, drop-of-length-le}
-use lib.Seq.{drop-cons, drop-drop, length-take-le}
+use lib.ListN.{length, take, drop, length-drop, drop-of-length-le}
+use lib.Seq.{drop-drop, length-take-le}
 use Rattle.records.specs.Payloads as payload
 use Rattle.records.specs.Payloads.{Payload}
 use Rattle.records.specs.RecordForm.{recordLength, kindOf, policyPayload}
@@ -15,8 +15,7 @@ use Rattle.records.specs.Answers.{lengthAnswer}
 use Rattle.records.specs.declared.RecordLength.{RecordLength}
 use Rattle.records.specs.declared.RecordLength.the-variants as RecordLength
 use Rattle.records.proofs.Laws.{length-bounds, whole-length, broken-length}
-use Rattle.policies.specs.Policy.{Policy}
-use Rattle.policies.specs.Reading.{Answer, refused, done, _>>=_, Next, Slots, readWhole, readRecord, readFrom, readPolicy, finish, orRefuse}
+use Rattle.policies.specs.Reading.{refused, done, _>>=_, Next, Slots, readWhole, readRecord, readFrom, readPolicy, finish, orRefuse}
 use Rattle.policies.specs.Reading.{refuseIf}
 use Rattle.policies.specs.Reading.{without, weighsNothing, written}
 use Rattle.policies.specs.Array.{slotsAt, Good}

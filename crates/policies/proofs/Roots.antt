@@ -1,17 +1,17 @@
 -- The root: the last slot, every other being taken; and the policy that it is. Assumes nothing.
-use mathlib.Core.Path.{_≡_, refl, sym, _∙_, ap, subst}
-use mathlib.Core.Bool.{Bool, true, false, cond}
-use mathlib.Core.List.{List, [], _∷_, _++_}
+use mathlib.Core.Path.{_≡_, refl, sym, _∙_, ap}
+use mathlib.Core.Bool.{Bool, true, false}
+use mathlib.Core.List.{List, [], _∷_}
 use mathlib.Core.Option.{Option, none, some}
 use Prim.Native.Nat.{ℕ, zero, suc, _+_, _*_, _-_, _<_, _≤_}
 use native.Mathlib.Numerals.{add-one}
 use native.Mathlib.Omega.{arith}
-use borrow.Author.Tests.{eq-eqb, ne-eqb, eqb-true, eqb-false, le-leb, lt-leb}
+use borrow.Author.Tests.{eq-eqb, ne-eqb, le-leb, lt-leb}
 use lib.Dec.{eqb, leb}
-use lib.ListN.{length, getD, drop, length-drop, replicate, List·getD-eq-default, getD-replicate, length-replicate, drop-of-length-le}
+use lib.ListN.{length, getD, drop, length-drop, replicate, length-replicate, drop-of-length-le}
 use lib.Seq.{drop-cons}
 use Rattle.policies.specs.Policy.{Policy, depth}
-use Rattle.policies.specs.Reading.{Slots, Answer, refused, done, slot, rootOf, finish, readPolicy, orRefuse}
+use Rattle.policies.specs.Reading.{Slots, rootOf, finish, readPolicy}
 use Rattle.policies.specs.Array.{takenAt, countAt, recordPolicy, policyAt, slotAt, slotsAt, Good}
 use Rattle.policies.specs.Answers.{Rooted, root, no-root, Read, PolicyRead, reads, bad-array, AllRead, RecordsGood}
 use Rattle.policies.specs.declared.RecordsRead.{RecordsRead}

@@ -1,19 +1,17 @@
 -- The slots of the rows read so far: what a store leaves of them, and the taking of children, one by one. Assumes nothing.
-use mathlib.Core.Path.{_≡_, refl, sym, _∙_, ap, subst}
-use mathlib.Core.Bool.{Bool, true, false, cond}
-use mathlib.Core.List.{List, [], _∷_, _++_, map}
+use mathlib.Core.Path.{_≡_, refl, sym, _∙_, ap}
+use mathlib.Core.Bool.{Bool, true, false}
+use mathlib.Core.List.{List, [], _∷_, _++_}
 use mathlib.Core.Option.{Option, none, some}
 use Prim.Native.Nat.{ℕ, zero, suc, _+_, _*_, _-_, _<_, _≤_}
-use native.Mathlib.Numerals.{add-one}
 use native.Mathlib.Omega.{arith}
 use borrow.Author.Tests.{eq-eqb, ne-eqb, eqb-true, eqb-false}
 use lib.Dec.{eqb}
 use lib.ListN.{length, getD, set, length-append, length-set, List·getD-append, List·getD-eq-default}
 use lib.Seq.{getD-at, getD-set-same, getD-set-other, ext-getD}
 use Rattle.policies.specs.Policy.{Policy}
-use Rattle.policies.specs.Forms.{nth, made}
 use Rattle.policies.specs.Reading.{Slots, slot, ifThere, without}
-use Rattle.policies.specs.Array.{wordAt, kindAt, childAt, takenAt, arity, countAt, wordsFrom, childrenAt, rowPolicy, policies, recordPolicy}
+use Rattle.policies.specs.Array.{wordAt, childAt, takenAt, countAt, wordsFrom, rowPolicy, policies, recordPolicy}
 use Rattle.policies.specs.Array.{slotAt, slotsAt, Rows}
 use Rattle.policies.specs.Answers.{Marked, Took, all, some-missing}
 use Rattle.policies.proofs.Views.{words-same, stored-row}

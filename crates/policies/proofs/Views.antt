@@ -1,22 +1,21 @@
 -- The policies that the array's numbers stand for. Crates above cite `stored-is`, `and-is`, `child-is`, `child-falls`, `fold-is`,
 -- `fold-falls` and `thresh-some`. Assumes nothing.
 use mathlib.Core.Path.{_≡_, refl, sym, _∙_, ap, subst}
-use mathlib.Core.Bool.{Bool, true, false, cond, _&&_}
+use mathlib.Core.Bool.{Bool, true, false}
 use mathlib.Core.List.{List, [], _∷_, _++_, map}
-use mathlib.Core.Logic.{_⊎_, inl, inr, ⊎-elim}
-use Prim.Native.Nat.{ℕ, zero, suc, _+_, _*_, _-_, _/_, _%_, _<_, _≤_}
+use Prim.Native.Nat.{ℕ, zero, suc, _+_, _*_, _-_, _<_, _≤_}
 use native.Mathlib.Omega.{arith}
-use borrow.Author.Tests.{lt-ltb, le-ltb, eq-eqb, ne-eqb, eqb-true, eqb-false, ltb-true, ltb-false}
-use lib.Dec.{eqb, ltb}
+use borrow.Author.Tests.{lt-ltb, le-ltb, ne-eqb, eqb-true, eqb-false}
+use lib.Dec.{eqb}
 use lib.ListN.{length, getD, length-append, List·getD-append, length-map}
 use lib.Seq.{getD-at}
-use Rattle.policies.specs.Policy.{Policy, Policies, Unsatisfiable, And, Thresh, end, _▹_, toList, fromList, weight, foldAnd, folded}
+use Rattle.policies.specs.Policy.{Policy, Policies, Unsatisfiable, And, Thresh, toList, fromList, weight, foldAnd, folded}
 use Rattle.policies.specs.Forms.{made, nth, kindOf, numberOf, kOf, leftWeightOf, rightWeightOf, childrenOf}
-use Rattle.policies.specs.Heads.{headOf}
+use Rattle.policies.specs.Heads.{headOf, pairHead}
 use Rattle.policies.specs.declared.Head.{Head}
 use Rattle.policies.specs.Array.{wordAt, kindAt, childAt, arity, countAt, wordsFrom, childrenAt, rowPolicy, policies, recordPolicy, andPolicy}
 use Rattle.policies.specs.Array.{andNumber, ofRecord, place, policyAt, Good, Named, stored, folds, rowChild, childNumber, foldNumber}
-use Rattle.policies.proofs.Forms.{to-from, from-to, children-made, thresh-made, andHead}
+use Rattle.policies.proofs.Forms.{from-to, children-made, thresh-made}
 use Rattle.policies.proofs.Weights.{child-weight, folded-lighter}
 
 -- ---- words in a row
@@ -263,13 +262,13 @@ module _ (m : List ℕ) (g : Good m) where
 
 -- ---- heads
 
-and-head-of : (m : List ℕ) (i t : ℕ) → headOf (andPolicy m i t) ≡ andHead
+and-head-of : (m : List ℕ) (i t : ℕ) → headOf (andPolicy m i t) ≡ pairHead 10 0 0
 unfolding andPolicy kindOf numberOf kOf leftWeightOf rightWeightOf childrenOf
 and-head-of m i zero = refl
 and-head-of m i (suc t) = refl
 
 -- from 64 on a number stands for an And
-pub past-head : (m : List ℕ) (r : ℕ) → 64 ≤ r → andHead ≡ headOf (policyAt m r)
+pub past-head : (m : List ℕ) (r : ℕ) → 64 ≤ r → pairHead 10 0 0 ≡ headOf (policyAt m r)
 unfolding policyAt
 past-head m r h = rw (le-ltb r 64 h) (sym (and-head-of m (ofRecord r) (place r)))
 

@@ -1,11 +1,11 @@
 -- One whole record: the row written, its children taken, and the slots with its own added. Assumes nothing.
-use mathlib.Core.Path.{_≡_, refl, sym, _∙_, ap, subst}
-use mathlib.Core.Bool.{Bool, true, false, cond, not, _&&_, _||_}
+use mathlib.Core.Path.{_≡_, refl, sym, _∙_, ap}
+use mathlib.Core.Bool.{Bool, true, false, cond, _&&_, _||_}
 use mathlib.Core.List.{List, [], _∷_, _++_, map}
 use mathlib.Core.Option.{Option, none, some}
 use Prim.Native.Nat.{ℕ, zero, suc, _+_, _*_, _-_, _<_, _≤_}
 use native.Mathlib.Omega.{arith}
-use borrow.Author.Tests.{eq-eqb, ne-eqb, eqb-true, eqb-false}
+use borrow.Author.Tests.{eqb-true, eqb-false}
 use lib.Dec.{eqb}
 use lib.ListN.{length, getD, set}
 use Rattle.records.specs.Payloads as payload
@@ -15,17 +15,16 @@ use Rattle.records.specs.Answers.{padded, partsOf}
 use Rattle.records.specs.declared.Parts.{Parts}
 use Rattle.records.proofs.Laws.{fits-some, unfit-none, padded-at, length-padded}
 use Rattle.policies.specs.Policy.{Policy}
-use Rattle.policies.specs.Forms.{nth, made}
-use Rattle.policies.specs.Reading.{Slots, slot, ifThere, without, thePolicy, those, weighsNothing, written, Next, readWhole, orRefuse, refuseIf}
-use Rattle.policies.specs.Reading.{Answer, refused, done}
-use Rattle.policies.specs.Array.{wordAt, kindAt, childAt, takenAt, arity, countAt, wordsFrom, childrenAt, rowPolicy, policies, recordPolicy}
+use Rattle.policies.specs.Forms.{nth}
+use Rattle.policies.specs.Reading.{Slots, slot, ifThere, without, thePolicy, those, weighsNothing, written, Next, readWhole}
+use Rattle.policies.specs.Array.{wordAt, kindAt, childAt, takenAt, countAt, wordsFrom, childrenAt, rowPolicy, policies, recordPolicy}
 use Rattle.policies.specs.Array.{slotAt, slotsAt, Rows, Good}
 use Rattle.policies.specs.Answers.{Marked, Took, all, some-missing, Stepped, putRow}
 use Rattle.policies.specs.declared.Step.the-variants as Step
 use Rattle.policies.proofs.Views.{words-list, stored-row, earlier}
 use Rattle.policies.proofs.Rows.{RowPut, row-put}
 use Rattle.policies.proofs.Fits.{Fit, fit}
-use Rattle.policies.proofs.Slots.{Agree, Few, record-same, slots-same, slot-at, marked-rows}
+use Rattle.policies.proofs.Slots.{Agree, record-same, slots-same, slot-at, marked-rows}
 
 -- ---- children that are there
 

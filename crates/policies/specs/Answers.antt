@@ -4,11 +4,11 @@ use mathlib.Core.List.{List}
 use mathlib.Core.Option.{Option, none, some}
 use mathlib.Core.Path.{_≡_}
 use Prim.Native.Nat.{ℕ, suc, _+_, _*_, _<_, _≤_}
-use lib.ListN.{length, drop}
+use lib.ListN.{length}
 use Rattle.policies.specs.Policy.{Policy}
-use Rattle.policies.specs.Reading.{Answer, refused, done, Next, Slots, rootOf, finish, readPolicy, without, badPolicy, zeroWeight}
+use Rattle.policies.specs.Reading.{Answer, refused, done, Next, rootOf, finish, readPolicy, without, badPolicy, zeroWeight}
 use Rattle.policies.specs.Reading.{policyTooLarge, maxRecords}
-use Rattle.policies.specs.Array.{arrayWords, wordAt, takenAt, childAt, wordsFrom, slotsAt, recordPolicy, policyAt, Good, putHead, putChildren}
+use Rattle.policies.specs.Array.{rowWords, arrayWords, wordAt, takenAt, childAt, wordsFrom, slotsAt, recordPolicy, policyAt, Good, putHead, putChildren}
 use Rattle.records.specs.declared.Parts.{Parts}
 use Rattle.policies.specs.declared.Step.{Step}
 use Rattle.policies.specs.declared.Step.the-variants as Step
@@ -28,11 +28,11 @@ pub record Marked (i : ℕ) (m₀ m : List ℕ) : Type 0 where
 -- the first n children of row i are taken, each of a smaller number, or one of them is not there
 pub data Took (i n : ℕ) (m₀ m : List ℕ) : Bool → Type 0 where
   all :
-      without (wordsFrom m₀ (40 * i + 6) n) (slotsAt m₀ i) ≡ some (slotsAt m i) →
+      without (wordsFrom m₀ (rowWords * i + 6) n) (slotsAt m₀ i) ≡ some (slotsAt m i) →
       Marked i m₀ m →
       ((j : ℕ) → j < n → childAt m₀ i j < i) →
       Took i n m₀ m true
-  some-missing : without (wordsFrom m₀ (40 * i + 6) n) (slotsAt m₀ i) ≡ none → Took i n m₀ m false
+  some-missing : without (wordsFrom m₀ (rowWords * i + 6) n) (slotsAt m₀ i) ≡ none → Took i n m₀ m false
 
 -- ---- one record, i being its number
 

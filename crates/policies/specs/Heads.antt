@@ -14,3 +14,10 @@ headOf p = record {
   «left_weight» = leftWeightOf p;
   «right_weight» = rightWeightOf p;
 }
+
+-- the heads of policies with no children, and with two
+abbrev pub leafHead : (kind number : ℕ) → Head
+leafHead kind number = record { kind = kind; number = number; k = 0; count = 0; «left_weight» = 0; «right_weight» = 0 }
+
+abbrev pub pairHead : (kind left right : ℕ) → Head
+pairHead kind left right = record { kind = kind; number = 0; k = 0; count = 2; «left_weight» = left; «right_weight» = right }

@@ -2,6 +2,7 @@
 pub mod Policy
 pub mod Forms
 pub mod Reading
+pub mod Examples
 pub mod Array
 pub mod Heads
 pub mod Answers

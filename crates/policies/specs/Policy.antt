@@ -2,7 +2,7 @@
 -- size and the fold to Ands of its section "Forms that must change", in the words of policy/compiler.rs, `best_compilations`.
 -- Assumes nothing: these are definitions.
 use mathlib.Core.List.{List, [], _∷_}
-use Prim.Native.Nat.{ℕ, zero, suc, _+_, max}
+use Prim.Native.Nat.{ℕ, suc, _+_, max}
 
 -- The two locks and the four hashes are kinds of one form each: `Lock After n`, `Lock Older n`, `Hash Sha256 h` and so on.
 pub data LockKind : Type 0 where

@@ -16,7 +16,7 @@ ghost use Rattle.policies.specs.Array.{maxChildren, rowWords, arrayWords
 ghost use Rattle.policies.specs.Array.{rowChild, childNumber, foldNumber, putHead, putChildren};
 ghost use Rattle.policies.specs.Answers.{Took, putRow, Stepped, AllRead, Rooted, Read, PolicyRead};
 ghost use Rattle.policies.specs.Reading.{maxRecords, readWhole, readRecord, readPolicy, finish};
-ghost use Rattle.policies.specs.Heads.{headOf};
+ghost use Rattle.policies.specs.Heads.{headOf, leafHead, pairHead};
 use records::Parts;
 use records::RecordLength;
 
@@ -51,43 +51,43 @@ pub struct Head {
     pub right_weight: u64,
 }
 
+// The head of a policy with no children.
+fn leaf(kind: u64, number: u64) -> Head
+    ensures { λ r. ⌜ r ≡ leafHead kind number ⌝ }
+{
+    Head {
+        kind,
+        number,
+        k: 0,
+        count: 0,
+        left_weight: 0,
+        right_weight: 0,
+    }
+}
+
+// The head of a policy with two children.
+fn pair(kind: u64, left_weight: u64, right_weight: u64) -> Head
+    ensures { λ r. ⌜ r ≡ pairHead kind «left_weight» «right_weight» ⌝ }
+{
+    Head {
+        kind,
+        number: 0,
+        k: 0,
+        count: 2,
+        left_weight,
+        right_weight,
+    }
+}
+
 // The head of the policy that a row's words make.
 fn head_from(kind: u64, number: u64, k: u64, n: u64, left_weight: u64, right_weight: u64) -> Head
     ensures { λ r. ⌜ ((cs : List Policy) → length cs ≡ arity kind n → r ≡ headOf (made kind number k «left_weight» «right_weight» cs)) ⌝ }
 {
     match kind {
-        2..=2 => Head {
-            kind: 2,
-            number: 0,
-            k: 0,
-            count: 0,
-            left_weight: 0,
-            right_weight: 0,
-        },
-        3..=9 => Head {
-            kind,
-            number,
-            k: 0,
-            count: 0,
-            left_weight: 0,
-            right_weight: 0,
-        },
-        10..=10 => Head {
-            kind: 10,
-            number: 0,
-            k: 0,
-            count: 2,
-            left_weight: 0,
-            right_weight: 0,
-        },
-        11..=11 => Head {
-            kind: 11,
-            number: 0,
-            k: 0,
-            count: 2,
-            left_weight,
-            right_weight,
-        },
+        2..=2 => leaf(2, 0),
+        3..=9 => leaf(kind, number),
+        10..=10 => pair(AND, 0, 0),
+        11..=11 => pair(11, left_weight, right_weight),
         12..=12 => Head {
             kind: 12,
             number: 0,
@@ -96,14 +96,7 @@ fn head_from(kind: u64, number: u64, k: u64, n: u64, left_weight: u64, right_wei
             left_weight: 0,
             right_weight: 0,
         },
-        _ => Head {
-            kind: 1,
-            number: 0,
-            k: 0,
-            count: 0,
-            left_weight: 0,
-            right_weight: 0,
-        },
+        _ => leaf(1, 0),
     }
 }
 
@@ -124,14 +117,7 @@ pub fn head_of(pol: &[u64], r: usize) -> Head
     ensures { λ h. ⌜ h ≡ headOf (policyAt (now (pol .entry)) r) ⌝ }
 {
     if MAX_RECORDS <= r {
-        return Head {
-            kind: AND,
-            number: 0,
-            k: 0,
-            count: 2,
-            left_weight: 0,
-            right_weight: 0,
-        };
+        return pair(AND, 0, 0);
     }
     let kind = word(pol, r, 0);
     let number = word(pol, r, 1);

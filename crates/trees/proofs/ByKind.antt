@@ -1,11 +1,10 @@
 -- The rules and the number of children by kind, a range of kinds at a time. Assumes nothing.
 use Prim.Native.Nat.{ℕ, zero, suc, _+_, _-_, _≤_, _<_}
-use mathlib.Core.Bool.{Bool, true, false}
 use mathlib.Core.List.{List, [], _∷_}
-use mathlib.Core.Option.{Option, none, some}
+use mathlib.Core.Option.{none, some}
 use mathlib.Core.Path.{_≡_, refl, sym, ap, subst, _∙_}
 use native.Mathlib.Omega.{arith}
-use borrow.Author.Tests.{le-leb, lt-leb, eq-eqb, ne-eqb, le-ltb}
+use borrow.Author.Tests.{le-leb, lt-leb, ne-eqb, le-ltb}
 use lib.ListN.{length, getD, take}
 use Rattle.types.specs.declared.«Type».{«Type»}
 use Rattle.types.specs.declared.TypeResult.{TypeResult}
@@ -46,8 +45,12 @@ arity-below kind count h =
 pub arity-above : (kind count : ℕ) → 56 < kind → 0 ≡ arity kind count
 arity-above kind count h =
     simp (
-      le-leb 42 kind (omega arith), lt-leb kind 48 (omega arith), le-leb 49 kind (omega arith), lt-leb kind 54 (omega arith),
-      ne-eqb kind 55 (omega arith), ne-eqb kind 56 (omega arith),
+      le-leb 42 kind (omega arith),
+      lt-leb kind 48 (omega arith),
+      le-leb 49 kind (omega arith),
+      lt-leb kind 54 (omega arith),
+      ne-eqb kind 55 (omega arith),
+      ne-eqb kind 56 (omega arith),
     )
 
 -- ---- a rule over the children in an array

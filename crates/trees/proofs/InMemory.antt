@@ -1,15 +1,14 @@
 -- Laws on the slots in work memory: reading one, taking one, adding one; and on children taken one after the other. Assumes nothing.
 use Prim.Native.Nat.{ℕ, zero, suc, _+_, _-_, _≤_, _<_}
-use mathlib.Core.Bool.{Bool, true, false}
 use mathlib.Core.List.{List, [], _∷_, _++_, map, append-assoc, append-nil}
 use mathlib.Core.Option.{Option, none, some}
-use mathlib.Core.Path.{_≡_, refl, sym, ap, subst, _∙_}
+use mathlib.Core.Path.{_≡_, refl, sym, ap, _∙_}
 use native.Mathlib.Numerals.{add-one}
 use native.Mathlib.Omega.{arith}
-use lib.ListN.{length, getD, set, take, drop, length-take, length-map, List·getD-map, List·getD-eq-default}
-use lib.Seq.{getD-take, take-set-lt, take-suc-set, take-suc, drop-cons, set-out, length-take-le}
+use lib.ListN.{length, getD, set, take, drop, length-map, List·getD-map, List·getD-eq-default}
+use lib.Seq.{getD-take, take-set-lt, take-suc-set, drop-cons, set-out, length-take-le}
 use Rattle.types.specs.declared.«Type».{«Type»}
-use Rattle.types.specs.TypeOrder.{pack, unpack}
+use Rattle.types.specs.TypeOrder.{pack}
 use Rattle.types.proofs.PackLaws.{unpack-pack}
 use Rattle.trees.specs.declared.Slot.{Slot}
 use Rattle.trees.specs.declared.Slot.the-variants as Slot
@@ -100,7 +99,7 @@ module _ (js : List ℕ) (n : ℕ) (whole : Option (Taken «Type»)) where
       let rest = take (n - (i + 1)) (drop (i + 1) js) in
       let front : take (i + 1) (set types i t) ≡ take i types ++ (t ∷ []) = rw add-one (take-suc-set types i t m) in
       let first : andFirst (getD slots (getD js i 0) none) (takeAll rest (set slots (getD js i 0) none))
-            ≡ andFirst (some t) (takeAll rest slots′) = rw (free, e) in
+      ≡ andFirst (some t) (takeAll rest slots′) = rw (free, e) in
       rw front (one-more (take i types) t (takeAll rest slots′) ∙ ap (andBefore (take i types)) (sym first)
       ∙ ap (λ (l : List ℕ). andBefore (take i types) (takeAll l slots)) (sym (next-child i h l)) ∙ inv)
 

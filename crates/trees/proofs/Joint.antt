@@ -2,15 +2,14 @@
 -- Assumes nothing.
 use Prim.Native.Nat.{ℕ, zero, suc}
 use mathlib.Core.List.{List, [], _∷_, _++_}
-use mathlib.Core.Logic.{_⊎_, inl, inr, ⊎-elim}
+use mathlib.Core.Logic.{⊎-elim}
 use mathlib.Core.Option.{Option, none, some}
-use mathlib.Core.Path.{_≡_, refl, subst}
 use lib.ListN.{take, drop}
 use Rattle.records.specs.Payloads.{Payload, childrenOf}
 use Rattle.records.specs.RecordForm.{recordLength, kindOf, fragmentPayload}
 use Rattle.trees.specs.Reading.{Answer, refused, done, _>>=_, orRefuse, badTree, treeTooLarge, maxRecords}
 use Rattle.trees.specs.Reading.{Slots, Taken, takeAll, rootOf, addMade, addPayload, addRecord, readFrom, readTree}
-use Rattle.trees.proofs.Slots.{Any, here, there, Pairs, empty, pair, IfSome, Free, Alike, any-more, any-last, AnyTaken, take-any, root-any}
+use Rattle.trees.proofs.Slots.{Any, here, there, Pairs, empty, IfSome, Free, Alike, any-more, any-last, AnyTaken, take-any, root-any}
 use Rattle.trees.proofs.Slots.{PairsTaken, pairs-more, take-pairs, root-pairs}
 
 -- what holds if the answer is no refusal
@@ -30,8 +29,7 @@ or-done P n (some x) p = holds p
 
 -- one reading: what holds of some free slot holds of the root
 module _ {A : Type 0} (S : A → Type 0) (make : ℕ → Payload → List A → Answer A)
-  (kept : (kind : ℕ) (p : Payload) (xs : List A) → Any S xs → IfDone S (make kind p xs)) where
-
+    (kept : (kind : ℕ) (p : Payload) (xs : List A) → Any S xs → IfDone S (make kind p xs)) where
   made-any : (l : Slots A) (a : Answer A) → IfDone S a → IfDone (Any (Free S)) (a >>= λ x. done (l ++ (some x ∷ [])))
   made-any l (refused n) h = refuses
   made-any l (done x) (holds p) = holds (any-last (Free S) l p)
@@ -80,12 +78,11 @@ module _ {A : Type 0} (S : A → Type 0) (make : ℕ → Payload → List A → 
 
 -- two readings
 module _ {A B : Type 0} (N : ℕ → ℕ → Type 0) (R : A → B → Type 0) (S : A → Type 0)
-  (make : ℕ → Payload → List A → Answer A) (make′ : ℕ → Payload → List B → Answer B)
-  (same : (n : ℕ) → N n n)
-  (still : (x : A) → S x → (m n : ℕ) → N m n)
-  (kept : (kind : ℕ) (p : Payload) (xs : List A) → Any S xs → IfDone S (make kind p xs))
-  (makes : (kind : ℕ) (p : Payload) (xs : List A) (ys : List B) → Pairs R xs ys → Joint N R S (make kind p xs) (make′ kind p ys)) where
-
+    (make : ℕ → Payload → List A → Answer A) (make′ : ℕ → Payload → List B → Answer B)
+    (same : (n : ℕ) → N n n)
+    (still : (x : A) → S x → (m n : ℕ) → N m n)
+    (kept : (kind : ℕ) (p : Payload) (xs : List A) → Any S xs → IfDone S (make kind p xs))
+    (makes : (kind : ℕ) (p : Payload) (xs : List A) (ys : List B) → Pairs R xs ys → Joint N R S (make kind p xs) (make′ kind p ys)) where
   abbrev JointSlots : Answer (Slots A) → Answer (Slots B) → Type 0
   JointSlots a b = Joint N (Pairs (Alike R)) (Any (Free S)) a b
 

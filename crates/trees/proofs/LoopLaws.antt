@@ -1,10 +1,9 @@
 -- The loop over a tree's records: how far it is, and what each of its turns and its end come to. Assumes nothing.
-use Prim.Native.Nat.{ℕ, zero, suc, _+_, _-_, _≤_, _<_}
-use mathlib.Core.Bool.{Bool, true, false, cond}
+use Prim.Native.Nat.{ℕ, suc, _+_, _-_, _≤_, _<_}
+use mathlib.Core.Bool.{true, false}
 use mathlib.Core.List.{List, [], _∷_, _++_}
 use mathlib.Core.Option.{Option, none, some}
 use mathlib.Core.Path.{_≡_, refl, sym, ap, subst, _∙_}
-use native.Mathlib.Numerals.{add-one}
 use native.Mathlib.Omega.{arith}
 use borrow.Author.Tests.{eq-eqb, ne-eqb}
 use lib.Dec.{eqb}
@@ -67,13 +66,22 @@ unfolding readTree freeIn
 progress-start c tree work e =
     record { rest = refl; within = omega arith; few = omega arith; room = e; count = refl; root = count-none }
 
-module _ (c : Context) (tree work : List ℕ) (at read free : ℕ) (so-far : Progress c tree work at read free) where
-  some-left : at < length tree → 0 < length (drop at tree)
-  some-left h = rw (length-drop at tree) (omega arith)
+-- one turn of the loop: a record may begin, and its length is known
+pub record Turn (c : Context) (tree work : List ℕ) (at read free len : ℕ) : Type 0 where
+  pub so-far : Progress c tree work at read free
+  pub inside : at < length tree
+  pub more : read < maxRecords
+  pub whole : recordLength (drop at tree) ≡ some len
 
-  one-less : read < maxRecords → maxRecords - read ≡ suc (maxRecords - (read + 1))
-  one-less h = omega arith
+some-left : (tree : List ℕ) (at : ℕ) → at < length tree → 0 < length (drop at tree)
+some-left tree at h = rw (length-drop at tree) (omega arith)
 
+one-less : (read : ℕ) → read < maxRecords → maxRecords - read ≡ suc (maxRecords - (read + 1))
+one-less read h = omega arith
+
+-- ---- before a record is read
+
+module _ {c : Context} {tree work : List ℕ} {at read free : ℕ} (so-far : Progress c tree work at read free) where
   pub free-few : free ≤ maxRecords
   free-few =
       let l = free-le (slotsIn work read) in
@@ -83,79 +91,90 @@ module _ (c : Context) (tree work : List ℕ) (at read free : ℕ) (so-far : Pro
   pub progress-large : at < length tree → read ≡ maxRecords → refused treeTooLarge ≡ readTree (makeType c) tree
   progress-large h e =
       let z : maxRecords - read ≡ 0 = omega arith in
-      sym (read-large (makeType c) (slotsIn work read) (drop at tree) (some-left h))
-      ∙ ap (λ (n : ℕ). readFrom (makeType c) n (slotsIn work read) (drop at tree)) (sym z) ∙ so-far .rest
+      sym (read-large (makeType c) (slotsIn work read) (drop at tree) (some-left tree at h))
+      ∙ ap (λ (n : ℕ). readFrom (makeType c) n (slotsIn work read) (drop at tree)) (sym z)
+      ∙ so-far .rest
 
   pub progress-broken : at < length tree → read < maxRecords → recordLength (drop at tree) ≡ none
       → refused badTree ≡ readTree (makeType c) tree
   progress-broken h l e =
-      sym (read-broken (makeType c) (maxRecords - (read + 1)) (slotsIn work read) (drop at tree) (some-left h) e)
-      ∙ ap (λ (n : ℕ). readFrom (makeType c) n (slotsIn work read) (drop at tree)) (sym (one-less l)) ∙ so-far .rest
+      sym (read-broken (makeType c) (maxRecords - (read + 1)) (slotsIn work read) (drop at tree) (some-left tree at h) e)
+      ∙ ap (λ (n : ℕ). readFrom (makeType c) n (slotsIn work read) (drop at tree)) (sym (one-less read l))
+      ∙ so-far .rest
 
-  module _ (h : at < length tree) (l : read < maxRecords) (len end : ℕ) (e : recordLength (drop at tree) ≡ some len) (is : end ≡ at + len) where
-    pub end-within : end ≤ length tree
-    end-within = omega (arith, length-bounds (drop at tree) e, length-drop at tree)
+-- ---- after a record
 
-    pub end-later : at < end
-    end-later = omega (arith, length-bounds (drop at tree) e)
+module _ {c : Context} {tree work : List ℕ} {at read free len : ℕ} (turn : Turn c tree work at read free len) where
+  pub end-within : at + len ≤ length tree
+  end-within = omega (arith, length-bounds (drop at tree) (turn .whole), length-drop at tree)
 
-    after-record : {a : Answer (Slots «Type»)} → addRecord (makeType c) (slotsIn work read) (take (end - at) (drop at tree)) ≡ a
-        → (a >>= λ slots. readFrom (makeType c) (maxRecords - (read + 1)) slots (drop len (drop at tree))) ≡ readTree (makeType c) tree
-    after-record {a} f =
-        let same : end - at ≡ len = omega arith in
-        sym (read-next (makeType c) (maxRecords - (read + 1)) (slotsIn work read) (drop at tree) len (some-left h) e
-        (subst (λ (n : ℕ). addRecord (makeType c) (slotsIn work read) (take n (drop at tree)) ≡ a) same f))
-        ∙ ap (λ (n : ℕ). readFrom (makeType c) n (slotsIn work read) (drop at tree)) (sym (one-less l)) ∙ so-far .rest
+  pub end-later : at < at + len
+  end-later = omega (arith, length-bounds (drop at tree) (turn .whole))
 
-    module _ (work′ : List ℕ) (r : Step) (stepped : Stepped c (take (end - at) (drop at tree)) work work′ read r) where
-      pub progress-bad : r ≡ Step.BadTree → refused badTree ≡ readTree (makeType c) tree
-      progress-bad t = after-record (stepped .says ∙ ap (λ (r : Step). stepAnswer r (slotsIn work′ (read + 1))) t)
+  after-record : {a : Answer (Slots «Type»)} → addRecord (makeType c) (slotsIn work read) (take (at + len - at) (drop at tree)) ≡ a
+      → (a >>= λ slots. readFrom (makeType c) (maxRecords - (read + 1)) slots (drop len (drop at tree))) ≡ readTree (makeType c) tree
+  after-record {a} f =
+      let same : at + len - at ≡ len = omega arith in
+      let f′ = subst (λ (n : ℕ). addRecord (makeType c) (slotsIn work read) (take n (drop at tree)) ≡ a) same f in
+      sym (read-next (makeType c) (maxRecords - (read + 1)) (slotsIn work read) (drop at tree) len (some-left tree at (turn .inside))
+      (turn .whole) f′)
+      ∙ ap (λ (n : ℕ). readFrom (makeType c) n (slotsIn work read) (drop at tree)) (sym (one-less read (turn .more)))
+      ∙ turn .so-far .rest
 
-      pub progress-ill : r ≡ Step.IllTyped → refused illTyped ≡ readTree (makeType c) tree
-      progress-ill t = after-record (stepped .says ∙ ap (λ (r : Step). stepAnswer r (slotsIn work′ (read + 1))) t)
+  module _ {work′ : List ℕ} {r : Step} (stepped : Stepped c (take (at + len - at) (drop at tree)) work work′ read r) where
+    pub same-room : {n : ℕ} → n ≡ maxRecords → length work′ ≡ n
+    same-room e = stepped .same ∙ turn .so-far .room ∙ sym e
 
-      pub progress-free : (children : ℕ) → r ≡ Step.Next children → freeIn (slotsIn work′ (read + 1)) + children ≡ free + 1
-      progress-free children t =
-          rw (so-far .count)
-          (subst (λ (r : Step). FreeAfter r (slotsIn work read) (slotsIn work′ (read + 1))) t (stepped .free))
+    pub progress-bad : r ≡ Step.BadTree → refused badTree ≡ readTree (makeType c) tree
+    progress-bad t = after-record (stepped .says ∙ ap (λ (r : Step). stepAnswer r (slotsIn work′ (read + 1))) t)
 
-      pub progress-next : (children : ℕ) → r ≡ Step.Next children → Progress c tree work′ end (read + 1) (free + 1 - children)
-      progress-next children t =
-          let says = stepped .says ∙ ap (λ (r : Step). stepAnswer r (slotsIn work′ (read + 1))) t in
-          record {
-            rest =
-              ap (λ (s : List ℕ). readFrom (makeType c) (maxRecords - (read + 1)) (slotsIn work′ (read + 1)) s)
-              (ap (λ (n : ℕ). drop n tree) is ∙ sym (drop-drop len at tree))
+    pub progress-ill : r ≡ Step.IllTyped → refused illTyped ≡ readTree (makeType c) tree
+    progress-ill t = after-record (stepped .says ∙ ap (λ (r : Step). stepAnswer r (slotsIn work′ (read + 1))) t)
+
+    pub progress-free : {children : ℕ} → r ≡ Step.Next children → freeIn (slotsIn work′ (read + 1)) + children ≡ free + 1
+    progress-free t =
+        rw (turn .so-far .count)
+        (subst (λ (r : Step). FreeAfter r (slotsIn work read) (slotsIn work′ (read + 1))) t (stepped .free))
+
+    pub progress-next : {children : ℕ} → r ≡ Step.Next children → Progress c tree work′ (at + len) (read + 1) (free + 1 - children)
+    progress-next t =
+        let says = stepped .says ∙ ap (λ (r : Step). stepAnswer r (slotsIn work′ (read + 1))) t in
+        record {
+          rest =
+              ap (λ (s : List ℕ). readFrom (makeType c) (maxRecords - (read + 1)) (slotsIn work′ (read + 1)) s) (sym (drop-drop len at tree))
               ∙ after-record says;
-            within = end-within;
-            few = omega arith;
-            room = stepped .same ∙ so-far .room;
-            count = omega (arith, progress-free children t);
-            root = counted-after (makeType c) (slotsIn work read) (take (end - at) (drop at tree)) (slotsIn work′ (read + 1)) says;
-          }
+          within = end-within;
+          few = omega (arith, turn .more);
+          room = stepped .same ∙ turn .so-far .room;
+          count = omega (arith, progress-free t);
+          root = counted-after (makeType c) (slotsIn work read) (take (at + len - at) (drop at tree)) (slotsIn work′ (read + 1)) says;
+        }
 
-  module _ (h : length tree ≤ at) where
-    at-end : orRefuse badTree (rootOf (slotsIn work read)) ≡ readTree (makeType c) tree
-    at-end =
-        sym (read-end (makeType c) (maxRecords - read) (slotsIn work read) (drop at tree) (rw (length-drop at tree) (omega arith)))
-        ∙ so-far .rest
+-- ---- after all records
 
-    pub progress-unused : (free ≡ 1 → ⊥) → refused badTree ≡ readTree (makeType c) tree
-    progress-unused f =
-        let not-one : eqb (freeIn (slotsIn work read)) 1 ≡ false = ne-eqb (freeIn (slotsIn work read)) 1 (λ e. f (so-far .count ∙ e)) in
-        let none-is-root : rootOf (slotsIn work read) ≡ none = so-far .root ∙ rw not-one in
-        sym (ap (orRefuse badTree) none-is-root) ∙ at-end
+module _ {c : Context} {tree work : List ℕ} {at read free : ℕ} (so-far : Progress c tree work at read free) where
+  at-end : length tree ≤ at → orRefuse badTree (rootOf (slotsIn work read)) ≡ readTree (makeType c) tree
+  at-end h =
+      sym (read-end (makeType c) (maxRecords - read) (slotsIn work read) (drop at tree) (rw (length-drop at tree) (omega arith)))
+      ∙ so-far .rest
 
-    pub progress-root : free ≡ 1 → orRefuse badTree (getD (slotsIn work read) (read - 1) none) ≡ readTree (makeType c) tree
-    progress-root f =
-        let one : eqb (freeIn (slotsIn work read)) 1 ≡ true = eq-eqb (freeIn (slotsIn work read)) 1 (sym (so-far .count) ∙ f) in
-        let last : lastOf (slotsIn work read) ≡ getD (slotsIn work read) (read - 1) none =
-          ap (λ (n : ℕ). getD (slotsIn work read) (n - 1) none) (slots-length work read (omega arith)) in
-        let last-is-root : rootOf (slotsIn work read) ≡ getD (slotsIn work read) (read - 1) none = so-far .root ∙ rw one last in
-        sym (ap (orRefuse badTree) last-is-root) ∙ at-end
+  pub progress-unused : length tree ≤ at → (free ≡ 1 → ⊥) → refused badTree ≡ readTree (makeType c) tree
+  progress-unused h f =
+      let not-one : eqb (freeIn (slotsIn work read)) 1 ≡ false = ne-eqb (freeIn (slotsIn work read)) 1 (λ e. f (so-far .count ∙ e)) in
+      let none-is-root : rootOf (slotsIn work read) ≡ none = so-far .root ∙ rw not-one in
+      sym (ap (orRefuse badTree) none-is-root) ∙ at-end h
 
-    pub some-read : free ≡ 1 → 1 ≤ read
-    some-read f =
-        let l = free-le (slotsIn work read) in
-        let n = slots-length work read (omega arith) in
-        omega arith
+  pub progress-root : length tree ≤ at → free ≡ 1
+      → orRefuse badTree (getD (slotsIn work read) (read - 1) none) ≡ readTree (makeType c) tree
+  progress-root h f =
+      let one : eqb (freeIn (slotsIn work read)) 1 ≡ true = eq-eqb (freeIn (slotsIn work read)) 1 (sym (so-far .count) ∙ f) in
+      let last : lastOf (slotsIn work read) ≡ getD (slotsIn work read) (read - 1) none =
+      ap (λ (n : ℕ). getD (slotsIn work read) (n - 1) none) (slots-length work read (omega arith)) in
+      let last-is-root : rootOf (slotsIn work read) ≡ getD (slotsIn work read) (read - 1) none = so-far .root ∙ rw one last in
+      sym (ap (orRefuse badTree) last-is-root) ∙ at-end h
+
+  pub some-read : free ≡ 1 → 1 ≤ read
+  some-read f =
+      let l = free-le (slotsIn work read) in
+      let n = slots-length work read (omega arith) in
+      omega arith

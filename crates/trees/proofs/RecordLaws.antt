@@ -1,9 +1,9 @@
 -- One record of a tree: how many children its kind has, and what reading it gives in each case. Assumes nothing.
-use Prim.Native.Nat.{ℕ, zero, suc, _+_, _-_, _≤_, _<_}
+use Prim.Native.Nat.{ℕ, zero, suc, _-_, _≤_, _<_}
 use mathlib.Core.Bool.{Bool, true, false}
 use mathlib.Core.List.{List, [], _∷_, _++_}
-use mathlib.Core.Option.{Option, none, some}
-use mathlib.Core.Path.{_≡_, refl, sym, ap, subst, _∙_}
+use mathlib.Core.Option.{none, some}
+use mathlib.Core.Path.{_≡_, refl, sym, ap, _∙_}
 use native.Mathlib.Omega.{arith}
 use borrow.Author.Tests.{leb-true, leb-false}
 use lib.Dec.{leb}
@@ -11,8 +11,8 @@ use lib.ListN.{length, take, drop, replicate}
 use lib.Seq.{take-append-seam}
 use Rattle.records.specs.declared.Shape.{Shape}
 use Rattle.records.specs.declared.Shape.the-variants as Shape
-use Rattle.records.specs.Numbers.{u16, u16s, u32s, between, maxCount}
-use Rattle.records.specs.Shapes.{rows, isFragmentKind}
+use Rattle.records.specs.Numbers.{u16, u16s, u32s, maxCount}
+use Rattle.records.specs.Shapes.{rows}
 use Rattle.records.specs.Payloads.{Payload, nothing, number, children, weighted, threshold, keys, payloadOf, kOf, countOf, childrenOf}
 use Rattle.records.specs.RecordForm.{recordLength, kindOf, fragmentPayload}
 use Rattle.records.specs.declared.Parts.{Parts}
@@ -24,15 +24,11 @@ use Rattle.records.proofs.Laws.{is-three-children, is-threshold, is-keys, thres
 use Rattle.records.proofs.Laws.{fits-some, unfit-none}
 use Rattle.types.specs.declared.«Type».{«Type»}
 use Rattle.types.specs.declared.TypeResult.{TypeResult}
-use Rattle.types.specs.declared.TypeResult.the-variants.{Ok, IllTyped}
 use Rattle.terms.specs.declared.Context.{Context}
-use Rattle.trees.specs.declared.Children.{Children}
-use Rattle.trees.specs.Reading.{Answer, refused, done, _>>=_, orRefuse, badTree, illTyped, treeTooLarge}
-use Rattle.trees.specs.Reading.{Slots, Taken, takeAll, rootOf, addMade, addPayload, addRecord, readFrom}
+use Rattle.trees.specs.Reading.{Answer, refused, done, _>>=_, orRefuse, badTree, treeTooLarge}
+use Rattle.trees.specs.Reading.{Slots, Taken, takeAll, rootOf, addRecord, readFrom}
 use Rattle.trees.specs.Rules.{answered, ruleOf, makeType}
-use Rattle.trees.specs.WorkMemory.{freeIn, childrenTaken, arity}
-use Rattle.trees.proofs.Slots.{IfSome}
-use Rattle.trees.proofs.Counting.{free-more, free-taken}
+use Rattle.trees.specs.WorkMemory.{arity}
 use Rattle.trees.proofs.ByKind.{arity-one, arity-two, arity-below, arity-above}
 
 -- ---- the children of a record
@@ -165,62 +161,44 @@ module _ (c : Context) (slots : Slots «Type») (s : List ℕ) where
 
 -- ---- the same from what the functions of the crates below tell
 
-pub payload-of : (s : List ℕ) (parts : Parts) → parts ≡ partsOf (fragmentPayload s) → parts .fits ≡ true
-    → (p : Payload) × (fragmentPayload s ≡ some p) × (parts ≡ partsOf (some p))
-payload-of s parts e f =
-    let found = fits-some (fragmentPayload s) (sym (ap (λ (x : Parts). x .fits) e) ∙ f) in
-    (found .0, found .1, e ∙ ap partsOf (found .1))
+-- a record of the form: its payload, its parts, its kind and the number of its children
+pub record Found (s : List ℕ) (parts : Parts) (kind n : ℕ) : Type 0 where
+  pub payload : Payload
+  pub fits : fragmentPayload s ≡ some payload
+  pub parts-are : parts ≡ partsOf (some payload)
+  pub kind-is : kind ≡ kindOf s
+  pub n-is : n ≡ arity kind (parts .count)
 
-pub no-payload : (s : List ℕ) (parts : Parts) → parts ≡ partsOf (fragmentPayload s) → parts .fits ≡ false → fragmentPayload s ≡ none
-no-payload s parts e f = unfit-none (fragmentPayload s) (sym (ap (λ (x : Parts). x .fits) e) ∙ f)
+pub found : (s : List ℕ) {parts : Parts} {kind n : ℕ} → parts ≡ partsOf (fragmentPayload s) → parts .fits ≡ true → kind ≡ kindOf s
+    → n ≡ arity kind (parts .count) → Found s parts kind n
+found s e f k a =
+    let is = fits-some (fragmentPayload s) (sym (ap (λ (x : Parts). x .fits) e) ∙ f) in
+    record { payload = is .0; fits = is .1; parts-are = e ∙ ap partsOf (is .1); kind-is = k; n-is = a }
 
-module _ (s : List ℕ) (parts : Parts) (p : Payload) (e : fragmentPayload s ≡ some p) (is : parts ≡ partsOf (some p))
-  (kind n : ℕ) (k : kind ≡ kindOf s) (a : n ≡ arity kind (parts .count)) where
+pub not-found : (s : List ℕ) {parts : Parts} → parts ≡ partsOf (fragmentPayload s) → parts .fits ≡ false → fragmentPayload s ≡ none
+not-found s e f = unfit-none (fragmentPayload s) (sym (ap (λ (x : Parts). x .fits) e) ∙ f)
 
-  own-count : parts .count ≡ countOf p
-  own-count = ap (λ (x : Parts). x .count) is
+module _ {s : List ℕ} {parts : Parts} {kind n : ℕ} (x : Found s parts kind n) where
+  abbrev its-counts : Counts (kindOf s) (x .payload)
+  its-counts = counts s (x .payload) (x .fits)
 
-  own-children : n ≡ length (childrenOf p)
-  own-children = a ∙ ap (arity kind) own-count ∙ ap (λ (m : ℕ). arity m (countOf p)) k ∙ counts s p e .own
+  own-count : parts .count ≡ countOf (x .payload)
+  own-count = ap (λ (y : Parts). y .count) (x .parts-are)
+
+  pub own-children : n ≡ length (childrenOf (x .payload))
+  own-children = x .n-is ∙ ap (arity kind) own-count ∙ ap (λ (m : ℕ). arity m (countOf (x .payload))) (x .kind-is) ∙ its-counts .own
 
   pub few-children : n ≤ 16
-  few-children = omega (arith, own-children, children-le p, counts s p e .few)
+  few-children = omega (arith, own-children, children-le (x .payload), its-counts .few)
 
   pub rule-needs : (32 ≤ kind) × (kind ≤ 58) × (parts .count ≤ 16)
-  rule-needs = (rw k (counts s p e .from), rw k (counts s p e .to), rw own-count (counts s p e .few))
+  rule-needs = (rw (x .kind-is) (its-counts .from), rw (x .kind-is) (its-counts .to), rw own-count (its-counts .few))
 
-  same-children : take n (parts .children) ≡ childrenOf p
+  pub same-children : take n (parts .children) ≡ childrenOf (x .payload)
   same-children =
-      ap (λ (m : ℕ). take m (parts .children)) own-children ∙ ap (λ (x : Parts). take (length (childrenOf p)) (x .children)) is
-      ∙ padded-front (childrenOf p)
-
-  module _ (c : Context) (slots left : Slots «Type») (r : Children) (took : takeAll (take n (parts .children)) slots ≡ childrenTaken r n left) where
-    all-taken : takeAll (childrenOf p) slots ≡ childrenTaken r n left
-    all-taken = subst (λ (js : List ℕ). takeAll js slots ≡ childrenTaken r n left) same-children took
-
-    pub step-untaken : r .taken ≡ false → addRecord (makeType c) slots s ≡ refused badTree
-    step-untaken t = added-untaken c slots s p e (all-taken ∙ rw t)
-
-    taken-is : r .taken ≡ true → takeAll (childrenOf p) slots ≡ some (record { those = take n (r .types); left = left })
-    taken-is t = all-taken ∙ rw t
-
-    pub step-taken : (res : TypeResult) → r .taken ≡ true → ruleOf kind c (parts .k) (take (arity kind (parts .count)) (r .types)) ≡ answered res
-        → addRecord (makeType c) slots s ≡ (answered res >>= λ t. done (left ++ (some t ∷ [])))
-    step-taken res t h =
-        let own-k : parts .k ≡ kOf p = ap (λ (x : Parts). x .k) is in
-        added c slots s p (record { those = take n (r .types); left = left }) res e (taken-is t) (
-          ap (λ (m : ℕ). ruleOf m c (kOf p) (take n (r .types))) (sym k)
-          ∙ ap (λ (m : ℕ). ruleOf kind c m (take n (r .types))) (sym own-k)
-          ∙ ap (λ (m : ℕ). ruleOf kind c (parts .k) (take m (r .types))) a
-          ∙ h
-        )
-
-    pub step-free : (t : «Type») → r .taken ≡ true → freeIn (left ++ (some t ∷ [])) + n ≡ freeIn slots + 1
-    step-free t h =
-        let all : freeIn left + length (childrenOf p) ≡ freeIn slots =
-          subst (λ (o : Option (Taken «Type»)). IfSome (λ t. freeIn (t .left) + length (childrenOf p) ≡ freeIn slots) o)
-          (taken-is h) (free-taken (childrenOf p) slots) in
-        omega (arith, free-more left t, own-children)
+      ap (λ (m : ℕ). take m (parts .children)) own-children
+      ∙ ap (λ (y : Parts). take (length (childrenOf (x .payload))) (y .children)) (x .parts-are)
+      ∙ padded-front (childrenOf (x .payload))
 
 -- ---- reading records one after the other
 

@@ -4,7 +4,7 @@ use Prim.Native.Nat.{ℕ}
 use mathlib.Core.Bool.{Bool, true, false, cond}
 use mathlib.Core.List.{List, [], _∷_, map}
 use mathlib.Core.Option.{Option, none, some}
-use mathlib.Core.Path.{_≡_, refl, sym, ap, _∙_}
+use mathlib.Core.Path.{_≡_, refl, ap, _∙_}
 use lib.Dec.{eqb}
 use Rattle.records.specs.Payloads.{Payload, numberOf, kOf, keysOf}
 use Rattle.types.specs.declared.«Type».{«Type»}
@@ -12,14 +12,14 @@ use Rattle.types.specs.declared.TypeResult.{TypeResult}
 use Rattle.types.specs.declared.TypeResult.the-variants.{Ok, IllTyped}
 use Rattle.types.specs.TypeRules as rule
 use Rattle.terms.specs.declared.Context.{Context}
-use Rattle.trees.specs.Fragment.{Fragment, Fragments, AndOr, Thresh}
+use Rattle.trees.specs.Fragment.{Fragment, Fragments, Thresh}
 use Rattle.trees.specs.Typing.{_>>=_, allTyped, andAll, typeOf, typesOf}
-use Rattle.trees.specs.Reading.{Answer, refused, done, mapAnswer, orRefuse, badTree}
+use Rattle.trees.specs.Reading.{mapAnswer}
 use Rattle.trees.specs.Tree.{Line, _is_, find, Maker, plain, withNumber, one, two, three, fragments, ofChildren, ofKeys, makers}
-use Rattle.trees.specs.TreeCheck.{Typed, makeTyped}
+use Rattle.trees.specs.TreeCheck.{Typed}
 use Rattle.trees.specs.TreeCheck as check
 use Rattle.trees.specs.Rules.{Rule, answered, ofNone, ofOne, ofTwo, ofThree, ofAll, always, rules}
-use Rattle.trees.proofs.Slots.{All, Any, empty, both, here, there, IfSome}
+use Rattle.trees.proofs.Slots.{All, Any, both, here, there, IfSome}
 
 module _ (c : Context) where
   abbrev pub Good : Typed → Type 0

@@ -1,8 +1,7 @@
 -- The tree check passes exactly the well-typed trees (TreeCheck.antt), and its type can be found from the children's types alone
 -- (Rules.antt). Both compare two readings of the same bytes. Assumes nothing.
 use Prim.Native.Nat.{ℕ}
-use mathlib.Core.List.{List, [], _∷_, map}
-use mathlib.Core.Logic.{_↔_}
+use mathlib.Core.List.{List, map}
 use mathlib.Core.Option.{Option, none, some}
 use mathlib.Core.Path.{_≡_, refl, sym, ap, subst, _∙_}
 use native.Mathlib.Omega.{arith}
@@ -17,12 +16,12 @@ use Rattle.trees.specs.Fragment.{Fragment}
 use Rattle.trees.specs.Typing.{typeOf}
 use Rattle.trees.specs.Reading.{Answer, refused, done, mapAnswer, orRefuse, badTree, maxRecords, readTree}
 use Rattle.trees.specs.Tree.{find, Maker, makers, madeBy, fragmentOf, makeFragment, treeOf}
-use Rattle.trees.specs.TreeCheck.{Typed, typed, made, makeTyped, typedTreeOf, contextOf, checkIn, checkOf, PassesWellTypedTrees}
+use Rattle.trees.specs.TreeCheck.{Typed, typed, made, makeTyped, typedTreeOf, checkIn, checkOf, PassesWellTypedTrees}
 use Rattle.trees.specs.TreeCheck.{badContext, badWork}
 use Rattle.trees.specs.Checked.{typeOnly}
 use Rattle.trees.specs.Rules.{Rule, rules, givenBy, makeType}
 use Rattle.trees.proofs.Slots.{All, both, Any, here, there, Pairs, empty, pair, IfSome}
-use Rattle.trees.proofs.Rules.{Good, Ill, Fits, FitsIfFound, fits}
+use Rattle.trees.proofs.Rules.{Good, Ill, FitsIfFound, fits}
 use Rattle.trees.proofs.Joint.{IfDone, refuses, holds, Joint, neither, first, joint}
 use Rattle.trees.proofs.Joint as Joint
 

@@ -1,5 +1,4 @@
 -- What the tree check answers: document 01's number, and the type, for each of its cases ("Numbers the console shows").
-use Prim.Native.Nat.{ℕ}
 use Rattle.types.specs.declared.«Type».{«Type»}
 use Rattle.trees.specs.declared.Checked.{Checked}
 use Rattle.trees.specs.declared.Checked.the-variants as Checked
@@ -14,6 +13,6 @@ answerOf Checked.IllTyped = refused illTyped
 answerOf Checked.TreeTooLarge = refused treeTooLarge
 answerOf (Checked.Typed t) = done t
 
--- the check gives the root's type, and the tree to nobody but a reader of this page
+-- the root's type alone, which is what the check gives
 abbrev pub typeOnly : Answer Typed → Answer «Type»
 typeOnly a = mapAnswer (λ x. x .type) a

@@ -4,7 +4,6 @@ use Rattle.terms.specs.Leaves.{LockKind, HashKind}
 use mathlib.Core.List.{List, [], _∷_}
 
 infixr 50 _▹_
-
 mutual
   -- Keys, hashes and locks are numbers; a threshold is a number and its children or keys.
   pub data Fragment : Type 0 where

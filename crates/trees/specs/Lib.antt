@@ -4,6 +4,7 @@ pub mod Typing
 pub mod Reading
 pub mod Tree
 pub mod TreeCheck
+pub mod WorkedCases
 pub mod Checked
 -- for the inner contracts
 pub mod Rules

@@ -1,6 +1,6 @@
 -- When a byte string writes a tree: document 01, "Records" (children are smaller record numbers, each taken once, the last record is the
 -- root) and the tree check's order in "Numbers the console shows". What a record is made into is a parameter: Tree.antt makes fragments of
--- records, Check.antt fragments with their types.
+-- records, TreeCheck.antt fragments with their types, Rules.antt types alone.
 use Prim.Native.Nat.{ℕ, zero, suc}
 use mathlib.Core.List.{List, [], _∷_, _++_}
 use mathlib.Core.Option.{Option, none, some}
@@ -28,7 +28,6 @@ pub data Answer (A : Type 0) : Type 0 where
   done : A → Answer A
 
 infixl 20 _>>=_
-
 abbrev pub _>>=_ : {A B : Type 0} → Answer A → (A → Answer B) → Answer B
 refused n >>= next = refused n
 done a >>= next = next a

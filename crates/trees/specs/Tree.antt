@@ -5,8 +5,8 @@ use mathlib.Core.List.{List, [], _∷_}
 use mathlib.Core.Option.{Option, none, some}
 use lib.Dec.{eqb}
 use Rattle.records.specs.Payloads.{Payload, numberOf, kOf, keysOf}
-use Rattle.trees.specs.Fragment.{Fragment, Fragments, end, _▹_}
 use Rattle.terms.specs.Leaves.{After, Older, Sha256, Hash256, Ripemd160, Hash160}
+use Rattle.trees.specs.Fragment.{Fragment, Fragments, end, _▹_}
 use Rattle.trees.specs.Fragment.{False, True, PkK, PkH, Lock, Hash}
 use Rattle.trees.specs.Fragment.{Alt, Swap, Check, DupIf, Verify, NonZero, ZeroNotEqual}
 use Rattle.trees.specs.Fragment.{AndB, AndV, OrB, OrD, OrC, OrI, AndOr, Thresh, Multi, MultiA}
@@ -18,7 +18,6 @@ pub record Line (A : Type 0) : Type 0 where
   pub this : A
 
 infix 90 _is_
-
 abbrev pub _is_ : {A : Type 0} → ℕ → A → Line A
 kind is a = record { kind = kind; this = a }
 

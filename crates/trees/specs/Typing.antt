@@ -13,7 +13,6 @@ use Rattle.trees.specs.Fragment.{Alt, Swap, Check, DupIf, Verify, NonZer
 use Rattle.trees.specs.Fragment.{AndB, AndV, OrB, OrD, OrC, OrI, AndOr, Thresh, Multi, MultiA}
 
 infixl 20 _>>=_
-
 -- A rule is asked only where the child is well-typed.
 abbrev pub _>>=_ : TypeResult → («Type» → TypeResult) → TypeResult
 Ok t >>= rule = rule t

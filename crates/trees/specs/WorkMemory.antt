@@ -1,7 +1,7 @@
 -- The slots of document 01's records in work memory, for the inner contracts of the tree check: a word for each record read, 0 once it is
 -- taken, and one more than the packed number of its type while it is free.
 use Prim.Native.Nat.{ℕ, zero, suc, _+_}
-use mathlib.Core.Bool.{Bool, cond}
+use mathlib.Core.Bool.{cond}
 use mathlib.Core.List.{List, [], _∷_, map}
 use mathlib.Core.Option.{Option, none, some}
 use mathlib.Core.Path.{_≡_}
@@ -13,15 +13,13 @@ use Rattle.types.specs.declared.Unpacked.{Unpacked}
 use Rattle.types.specs.declared.Unpacked.the-variants.{Is, NotAType}
 use Rattle.types.specs.TypeOrder.{unpack}
 use Rattle.terms.specs.declared.Context.{Context}
-use Rattle.trees.specs.declared.Checked.{Checked}
 use Rattle.trees.specs.declared.Checked.the-variants as Checked
 use Rattle.trees.specs.declared.Slot.{Slot}
 use Rattle.trees.specs.declared.Slot.the-variants as Slot
 use Rattle.trees.specs.declared.Children.{Children}
 use Rattle.trees.specs.declared.Step.{Step}
 use Rattle.trees.specs.declared.Step.the-variants as Step
-use Rattle.trees.specs.Reading.{Answer, refused, done, badTree, illTyped, treeTooLarge, Slots, Taken, addRecord}
-use Rattle.trees.specs.TreeCheck.{badContext, badWork}
+use Rattle.trees.specs.Reading.{Answer, refused, done, badTree, illTyped, Slots, Taken, addRecord}
 use Rattle.trees.specs.Rules.{makeType}
 
 abbrev pub unpacked : Unpacked → Option «Type»

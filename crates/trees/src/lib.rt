@@ -209,7 +209,10 @@ fn take_children(work: &mut [u64], read: usize, children: [u16; 16], n: usize) -
     while i < n {
         let child = children[i] as usize;
         let Slot::Free(t) = take_child(work, read, child) else {
-            return Children { taken: false, types };
+            return Children {
+                taken: false,
+                types,
+            };
         };
         types[i] = t;
         i += 1;

@@ -26,8 +26,8 @@ returns-6 c = decides-no (λ e. c .if6 .taken (ap (λ (h : Head). h .«right_wei
 returns-7 : tie.Need-returns-7
 returns-7 c =
     let args =
-            c .before .before .before .before .before .before .before .before .before .before .before .before .before .before .before .before
-            .before .before .args in
+    c .before .before .before .before .before .before .before .before .before .before .before .before .before .before .before .before
+    .before .before .args in
     let if1 = c .before .before .before .before .before .before .before .before .before .before .before .before .before .before .before .if1 in
     let if2 = c .before .before .before .before .before .before .before .before .before .before .before .before .if2 in
     let if3 = c .before .before .before .before .before .before .before .before .before .if3 in

@@ -1,12 +1,19 @@
 -- `policies::head_of` meets its contract: the words of a row, by its kind; past the rows, an And. Assumes nothing.
+use mathlib.Core.Path.{_∙_}
 use native.Mathlib.Omega.{arith}
 use Rattle.policies.proofs.Views.{past-head, stored-head}
 use borrow.Author.Needs.{needs}
 use Rattle.policies.proofs.head_of.Statement.{statement}
 use Rattle.policies.proofs.head_of.Tie as tie
 
+pair-requires : tie.Need-pair-requires
+pair-requires c κs = search needs
+
 returns : tie.Need-returns
-returns c = past-head (c .before .before .args .pol .now) (c .before .before .args .r) (c .if1 .taken)
+returns c =
+    let args = c .before .before .before .args in
+    let if1 = c .before .if1 in
+    c .pair .ensures ∙ past-head (args .pol .now) (args .r) (if1 .taken)
 
 word-requires : tie.Need-word-requires
 word-requires c κs = search needs
@@ -38,29 +45,15 @@ returns-2 c =
     let word4 = c .before .before .before .word4 in
     let word5 = c .before .before .word5 in
     let word6 = c .before .word6 in
-    let m = args .pol .now in
-    stored-head
-    m
-    (args .r)
-    (omega arith)
-    (word .result)
-    (word2 .result)
-    (word3 .result)
-    (word4 .result)
-    (word5 .result)
-    (word6 .result)
-    (word .ensures)
-    (word2 .ensures)
-    (word3 .ensures)
-    (word4 .ensures)
-    (word5 .ensures)
-    (word6 .ensures)
+    stored-head (args .pol .now) (args .r) (omega arith) (word .result) (word2 .result) (word3 .result) (word4 .result) (word5 .result)
+    (word6 .result) (word .ensures) (word2 .ensures) (word3 .ensures) (word4 .ensures) (word5 .ensures) (word6 .ensures)
     (c .head-from .ensures)
 
 pub head-of-spec : {M : Type 1} → statement M
 head-of-spec =
     tie.close
     (tie.spec
+    pair-requires
     returns
     word-requires
     word-requires-2

@@ -30,10 +30,9 @@ same-length c = search needs
 
 returns : tie.Need-returns
 returns c =
-    let args = c .before .before .before .before .before .before .before .before .before .before .before .before .before .before .args in
     let put-head = c .before .before .before .before .before .before .put-head in
     let put-children = c .before .before .put-children in
-    put-children .ensures ∙ ap (λ (m : List ℕ). putChildren m (args .i) (args .parts .children)) (put-head .ensures)
+    rw (← put-head .ensures) (put-children .ensures)
 
 pub put-row-spec : {M : Type 1} → statement M
 put-row-spec =

@@ -1,11 +1,9 @@
+-- `trees::add_slot` meets its contract: the word behind the others holds the type. Assumes nothing.
 use borrow.Author.Needs.{needs}
 use Rattle.trees.proofs.InMemory.{slot-added}
 use lib.ListN.{length-set}
 use Rattle.trees.proofs.add_slot.Statement.{statement}
 use Rattle.trees.proofs.add_slot.Tie as tie
-use Rattle.trees.proofs.add_slot.Reads as reads
-use Rattle.trees.proofs.add_slot.Lts as lts
-use Rattle.types.proofs.Type.pack.Reads as pack-reads
 
 pack-requires : tie.Need-pack-requires
 pack-requires c κs = search needs
@@ -28,7 +26,8 @@ same-length c = search needs
 returns : tie.Need-returns
 returns c =
     let args = c .before .before .args in
-    (rw (c .pack .ensures) (slot-added (args .work .now) (args .read) (args .t) (c .before .before .pre)), length-set (args .work .now) (args .read) _)
+    let pre = c .before .before .pre in
+    (rw (c .pack .ensures) (slot-added (args .work .now) (args .read) (args .t) pre), length-set (args .work .now) (args .read) _)
 
 pub add-slot-spec : {M : Type 1} → statement M
 add-slot-spec =

@@ -1,3 +1,4 @@
+-- `trees::cast_type` meets its contract: a kind at a time. Assumes nothing.
 use borrow.Author.Needs.{needs}
 use mathlib.Core.Path.{_≡_}
 use native.Mathlib.Omega.{arith}
@@ -5,15 +6,6 @@ use Rattle.trees.specs.Tree.{find}
 use Rattle.trees.proofs.ByKind.{past}
 use Rattle.trees.proofs.cast_type.Statement.{statement}
 use Rattle.trees.proofs.cast_type.Tie as tie
-use Rattle.trees.proofs.cast_type.Reads as reads
-use Rattle.trees.proofs.cast_type.Lts as lts
-use Rattle.types.proofs.Type.cast_alt.Reads as cast-alt-reads
-use Rattle.types.proofs.Type.cast_check.Reads as cast-check-reads
-use Rattle.types.proofs.Type.cast_dupif.Reads as cast-dupif-reads
-use Rattle.types.proofs.Type.cast_nonzero.Reads as cast-nonzero-reads
-use Rattle.types.proofs.Type.cast_swap.Reads as cast-swap-reads
-use Rattle.types.proofs.Type.cast_verify.Reads as cast-verify-reads
-use Rattle.types.proofs.Type.cast_zeronotequal.Reads as cast-zeronotequal-reads
 
 cast-alt-requires : tie.Need-cast-alt-requires
 cast-alt-requires c κs = search needs
@@ -63,10 +55,12 @@ returns-6 c = λ context k. simp (c .before .match .keys6, c .cast-nonzero .ensu
 returns-7 : tie.Need-returns-7
 unfolding find
 returns-7 c =
+    let pre = c .before .before .pre in
+    let args = c .before .before .args in
     let rest = c .before .match .rest in
-    let l = past (past (past (past (past (past (c .before .before .pre .0) (rest .0 .0 .0 .0 .0 .1)) (rest .0 .0 .0 .0 .1)) (rest .0 .0 .0 .1)) (rest .0 .0 .1))
-        (rest .0 .1)) (rest .1) in
-    let e : c .before .before .args .kind ≡ 48 = omega (arith, l) in
+    let l = past (past (past (past (past (past (pre .0) (rest .0 .0 .0 .0 .0 .1)) (rest .0 .0 .0 .0 .1)) (rest .0 .0 .0 .1)) (rest .0 .0 .1))
+    (rest .0 .1)) (rest .1) in
+    let e : args .kind ≡ 48 = omega (arith, l) in
     λ context k. simp (e, c .cast-zeronotequal .ensures)
 
 pub cast-type-spec : {M : Type 1} → statement M

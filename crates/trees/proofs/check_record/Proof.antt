@@ -1,24 +1,31 @@
+-- `trees::check_record` meets its contract: the children are taken, the rule of the kind answers, and the slot is added. Assumes nothing.
 use borrow.Author.Needs.{needs}
-use mathlib.Core.Path.{_≡_, refl, sym, ap, subst, _∙_}
-use mathlib.Core.Option.{some}
-use mathlib.Core.List.{[], _∷_, _++_}
-use Prim.Native.Nat.{ℕ, _+_, _<_, _≤_}
-use lib.ListN.{length, length-set}
-use Rattle.trees.specs.Reading.{Slots, done}
-use Rattle.trees.specs.WorkMemory.{slotsIn, Stepped}
-use Rattle.trees.proofs.RecordLaws.{payload-of, no-payload, few-children, rule-needs}
-use Rattle.trees.proofs.StepLaws.{stepped-next, stepped-ill, stepped-untaken, stepped-unfit}
 use native.Mathlib.Omega.{arith}
+use Rattle.trees.proofs.RecordLaws.{Found, found, not-found, few-children, rule-needs}
+use Rattle.trees.proofs.StepLaws.{Took, stepped-unfit, stepped-untaken, stepped-ill, stepped-next}
 use Rattle.trees.proofs.check_record.Statement.{statement}
 use Rattle.trees.proofs.check_record.Tie as tie
-use Rattle.trees.proofs.check_record.Reads as reads
-use Rattle.trees.proofs.check_record.Lts as lts
-use Rattle.records.proofs.fragment_parts.Reads as fragment-parts-reads
-use Rattle.records.proofs.kind_of.Reads as kind-of-reads
-use Rattle.trees.proofs.add_slot.Reads as add-slot-reads
-use Rattle.trees.proofs.arity.Reads as arity-reads
-use Rattle.trees.proofs.rule_of.Reads as rule-of-reads
-use Rattle.trees.proofs.take_children.Reads as take-children-reads
+
+-- what is known of the record before its children are taken, and after
+its-record : (c : tie.After-arity)
+    → Found (c .before .before .before .before .before .before .args .bytes .now) (c .before .before .before .fragment-parts .result)
+    (c .before .kind-of .result) (c .arity .result)
+its-record c =
+    found (c .before .before .before .before .before .before .args .bytes .now) (c .before .before .before .fragment-parts .ensures)
+    (c .before .before .if1 .taken) (c .before .kind-of .ensures) (c .arity .ensures)
+
+abbrev before-children : tie.After-take-children → tie.After-arity
+before-children c = c .before .before .before
+
+abbrev start : tie.After-take-children → tie.Start
+start c = before-children c .before .before .before .before .before .before
+
+its-children : (c : tie.After-take-children)
+    → Took (start c .args .bytes .now) (start c .args .work .now) (c .take-children .last .0) (start c .args .read)
+    (before-children c .before .before .before .fragment-parts .result) (before-children c .before .kind-of .result)
+    (before-children c .arity .result) (c .take-children .result)
+its-children c =
+    record { found = its-record (before-children c); took = c .take-children .ensures .0; same = c .take-children .ensures .1 }
 
 fragment-parts-requires : tie.Need-fragment-parts-requires
 fragment-parts-requires c κs = search needs
@@ -30,40 +37,38 @@ arity-requires : tie.Need-arity-requires
 arity-requires c κs = search needs
 
 take-children-requires : tie.Need-take-children-requires
-take-children-requires c κs =
-    let parts = c .before .before .before .before .before .fragment-parts in
-    let found = payload-of (c .before .before .before .before .before .before .before .before .args .bytes .now) (parts .result) (parts .ensures) (c .before .before .before .before .if1 .taken) in
-    (omega arith, few-children (c .before .before .before .before .before .before .before .before .args .bytes .now) (parts .result) (found .0) (found .1) (found .2) (c .before .before .before .kind-of .result) (c .before .before .arity .result)
-    (c .before .before .before .kind-of .ensures) (c .before .before .arity .ensures))
+take-children-requires c κs = (omega arith, few-children (its-record (c .before .before)))
 
 cast-k : tie.Need-cast-k
 cast-k c = search needs
 
 rule-of-requires : tie.Need-rule-of-requires
-rule-of-requires c κs =
-    let parts = c .before .before .before .before .before .before .before .before .before .before .before .fragment-parts in
-    let found = payload-of (c .before .before .before .before .before .before .before .before .before .before .before .before .before .before .args .bytes .now) (parts .result) (parts .ensures) (c .before .before .before .before .before .before .before .before .before .before .if1 .taken) in
-    rule-needs (c .before .before .before .before .before .before .before .before .before .before .before .before .before .before .args .bytes .now) (parts .result) (found .0) (found .1) (found .2) (c .before .before .before .before .before .before .before .before .before .kind-of .result) (c .before .before .before .before .before .before .before .before .arity .result) (c .before .before .before .before .before .before .before .before .before .kind-of .ensures)
-    (c .before .before .before .before .before .before .before .before .arity .ensures)
+rule-of-requires c κs = rule-needs (its-record (c .before .before .before .before .before .before .before .before))
 
 enum-known-t : tie.Need-enum-known-t
 enum-known-t c = search needs
 
 add-slot-requires : tie.Need-add-slot-requires
-add-slot-requires c κs = omega (arith, c .before .before .before .before .before .before .before .before .before .before .take-children .ensures .1, c .before .before .before .before .before .before .before .before .before .before .before .before .before .before .before .before .before .before .before .pre)
+add-slot-requires c κs =
+    let near = c .before .before .before .before .before .before .before .before .before .before in
+    let take-children = c .before .before .before .before .before .before .before .before .before .before .take-children in
+    let pre = near .before .before .before .before .before .before .before .before .before .pre in
+    omega (arith, take-children .ensures .1, pre)
 
 same-length : tie.Need-same-length
 same-length c = search needs
 
 returns : tie.Need-returns
 returns c =
-    let args = c .before .before .before .before .before .before .before .before .before .before .before .before .before .before .before .before .before .before .before .before .before .before .args in
-    let parts = c .before .before .before .before .before .before .before .before .before .before .before .before .before .before .before .before .before .before .before .fragment-parts in
-    let found = payload-of (c .before .before .before .before .before .before .before .before .before .before .before .before .before .before .before .before .before .before .before .before .before .before .args .bytes .now) (parts .result) (parts .ensures) (c .before .before .before .before .before .before .before .before .before .before .before .before .before .before .before .before .before .before .if1 .taken) in
-    let took = c .before .before .before .before .before .before .before .before .before .before .before .before .before .take-children in
-    stepped-next (args .context) (args .bytes .now) (args .work .now) (took .last .0) (args .read) (parts .result) (found .0) (found .1) (found .2)
-    (c .before .before .before .before .before .before .before .before .before .before .before .before .before .before .before .before .before .kind-of .result) (c .before .before .before .before .before .before .before .before .before .before .before .before .before .before .before .before .arity .result) (c .before .before .before .before .before .before .before .before .before .before .before .before .before .before .before .before .before .kind-of .ensures) (c .before .before .before .before .before .before .before .before .before .before .before .before .before .before .before .before .arity .ensures) (took .result) (took .ensures .0) (took .ensures .1) (c .before .before .before .before .before .before .before .before .before .before .before .before .before .before .before .before .before .before .before .before .before .before .pre)
-    (c .before .before .before .before .before .before .before .before .before .before .if2 .taken) (c .before .before .before .before .before .before .before .rule-of .result) _ (c .before .before .add-slot .last .0) (c .before .before .before .before .before .before .before .rule-of .ensures) (c .before .before .before .before .before .t .given .1) (c .before .before .add-slot .ensures .0) (c .before .before .add-slot .ensures .1)
+    let near = c .before .before .before .before .before .before .before .before .before .before in
+    let args = near .before .before .before .before .before .before .before .before .before .before .before .before .args in
+    let there = near .before .before .before in
+    let if2 = c .before .before .before .before .before .before .before .before .before .before .if2 in
+    let rule-of = c .before .before .before .before .before .before .before .rule-of in
+    let t = c .before .before .before .before .before .t in
+    let add-slot = c .before .before .add-slot in
+    stepped-next (args .context) (its-children there) (if2 .taken) (rule-of .ensures) (t .given .1) (add-slot .ensures .0)
+    (add-slot .ensures .1)
 
 enum-told : tie.Need-enum-told
 enum-told c = search needs
@@ -73,32 +78,28 @@ same-length-2 c = search needs
 
 returns-2 : tie.Need-returns-2
 returns-2 c =
-    let args = c .before .before .before .before .before .before .before .before .before .before .before .before .before .before .before .before .before .args in
-    let parts = c .before .before .before .before .before .before .before .before .before .before .before .before .before .before .fragment-parts in
-    let found = payload-of (c .before .before .before .before .before .before .before .before .before .before .before .before .before .before .before .before .before .args .bytes .now) (parts .result) (parts .ensures) (c .before .before .before .before .before .before .before .before .before .before .before .before .before .if1 .taken) in
-    let took = c .before .before .before .before .before .before .before .before .take-children in
-    stepped-ill (args .context) (args .bytes .now) (args .work .now) (took .last .0) (args .read) (parts .result) (found .0) (found .1) (found .2)
-    (c .before .before .before .before .before .before .before .before .before .before .before .before .kind-of .result) (c .before .before .before .before .before .before .before .before .before .before .before .arity .result) (c .before .before .before .before .before .before .before .before .before .before .before .before .kind-of .ensures) (c .before .before .before .before .before .before .before .before .before .before .before .arity .ensures) (took .result) (took .ensures .0) (took .ensures .1) (c .before .before .before .before .before .before .before .before .before .before .before .before .before .before .before .before .before .pre)
-    (c .before .before .before .before .before .if2 .taken) (c .before .before .rule-of .result) (c .before .before .rule-of .ensures) (c .enum-told .given .1)
+    let near = c .before .before .before .before .before .before .before .before .before .before in
+    let args = near .before .before .before .before .before .before .before .args in
+    let there = c .before .before .before .before .before .before .before .before in
+    let if2 = c .before .before .before .before .before .if2 in
+    let rule-of = c .before .before .rule-of in
+    stepped-ill (args .context) (its-children there) (if2 .taken) (rule-of .ensures) (c .enum-told .given .1)
 
 same-length-3 : tie.Need-same-length-3
 same-length-3 c = search needs
 
 returns-3 : tie.Need-returns-3
 returns-3 c =
-    let args = c .before .before .before .before .before .before .before .before .before .before .before .before .args in
-    let parts = c .before .before .before .before .before .before .before .before .before .fragment-parts in
-    let found = payload-of (c .before .before .before .before .before .before .before .before .before .before .before .before .args .bytes .now) (parts .result) (parts .ensures) (c .before .before .before .before .before .before .before .before .if1 .taken) in
-    let took = c .before .before .before .take-children in
-    stepped-untaken (args .context) (args .bytes .now) (args .work .now) (took .last .0) (args .read) (parts .result) (found .0) (found .1)
-    (found .2) (c .before .before .before .before .before .before .before .kind-of .result) (c .before .before .before .before .before .before .arity .result) (c .before .before .before .before .before .before .before .kind-of .ensures) (c .before .before .before .before .before .before .arity .ensures) (took .result) (took .ensures .0)
-    (took .ensures .1) (c .before .before .before .before .before .before .before .before .before .before .before .before .pre) (c .if2 .left)
+    let near = c .before .before .before .before .before .before .before .before .before .before in
+    let args = near .before .before .args in
+    let there = c .before .before .before in
+    stepped-untaken (args .context) (its-children there) (c .if2 .left)
 
 returns-4 : tie.Need-returns-4
 returns-4 c =
     let args = c .before .before .before .before .args in
     stepped-unfit (args .context) (args .bytes .now) (args .work .now) (args .read)
-    (no-payload (args .bytes .now) (c .before .fragment-parts .result) (c .before .fragment-parts .ensures) (c .if1 .left))
+    (not-found (args .bytes .now) (c .before .fragment-parts .ensures) (c .if1 .left))
 
 pub check-record-spec : {M : Type 1} → statement M
 check-record-spec =

@@ -1,17 +1,9 @@
+-- `trees::leaf_type` meets its contract: a kind at a time, the hashes last. Assumes nothing.
 use borrow.Author.Needs.{needs}
 use Rattle.trees.specs.Tree.{find}
-use native.Mathlib.Omega.{arith}
 use Rattle.trees.proofs.ByKind.{past, hash-rule}
 use Rattle.trees.proofs.leaf_type.Statement.{statement}
 use Rattle.trees.proofs.leaf_type.Tie as tie
-use Rattle.trees.proofs.leaf_type.Reads as reads
-use Rattle.trees.proofs.leaf_type.Lts as lts
-use Rattle.types.proofs.Type.hash.Reads as hash-reads
-use Rattle.types.proofs.Type.of_false.Reads as of-false-reads
-use Rattle.types.proofs.Type.of_true.Reads as of-true-reads
-use Rattle.types.proofs.Type.pk_h.Reads as pk-h-reads
-use Rattle.types.proofs.Type.pk_k.Reads as pk-k-reads
-use Rattle.types.proofs.Type.time.Reads as time-reads
 
 of-false-requires : tie.Need-of-false-requires
 of-false-requires c κs = search needs
@@ -60,10 +52,12 @@ returns-6 c = λ context k. simp (c .before .match .keys6, c .time2 .ensures)
 
 returns-7 : tie.Need-returns-7
 returns-7 c =
+    let pre = c .before .before .pre in
+    let args = c .before .before .args in
     let rest = c .before .match .rest in
-    let l = past (past (past (past (past (past (c .before .before .pre .0) (rest .0 .0 .0 .0 .0 .1)) (rest .0 .0 .0 .0 .1)) (rest .0 .0 .0 .1)) (rest .0 .0 .1))
-        (rest .0 .1)) (rest .1) in
-    λ context k. rw (c .hash .ensures) (hash-rule (c .before .before .args .kind) l (c .before .before .pre .1) context k)
+    let l = past (past (past (past (past (past (pre .0) (rest .0 .0 .0 .0 .0 .1)) (rest .0 .0 .0 .0 .1)) (rest .0 .0 .0 .1)) (rest .0 .0 .1))
+    (rest .0 .1)) (rest .1) in
+    λ context k. rw (c .hash .ensures) (hash-rule (args .kind) l (pre .1) context k)
 
 pub leaf-type-spec : {M : Type 1} → statement M
 leaf-type-spec =

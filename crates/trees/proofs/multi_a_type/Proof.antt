@@ -1,9 +1,7 @@
+-- `trees::multi_a_type` meets its contract: by the context. Assumes nothing.
 use borrow.Author.Needs.{needs}
 use Rattle.trees.proofs.multi_a_type.Statement.{statement}
 use Rattle.trees.proofs.multi_a_type.Tie as tie
-use Rattle.trees.proofs.multi_a_type.Reads as reads
-use Rattle.trees.proofs.multi_a_type.Lts as lts
-use Rattle.types.proofs.Type.multi_a.Reads as multi-a-reads
 
 enum-told : tie.Need-enum-told
 enum-told c = search needs

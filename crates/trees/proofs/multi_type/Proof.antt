@@ -1,9 +1,7 @@
+-- `trees::multi_type` meets its contract: by the context. Assumes nothing.
 use borrow.Author.Needs.{needs}
 use Rattle.trees.proofs.multi_type.Statement.{statement}
 use Rattle.trees.proofs.multi_type.Tie as tie
-use Rattle.trees.proofs.multi_type.Reads as reads
-use Rattle.trees.proofs.multi_type.Lts as lts
-use Rattle.types.proofs.Type.multi.Reads as multi-reads
 
 enum-told : tie.Need-enum-told
 enum-told c = search needs

@@ -1,3 +1,4 @@
+-- `trees::pair_type` meets its contract: a kind at a time. Assumes nothing.
 use borrow.Author.Needs.{needs}
 use mathlib.Core.Path.{_≡_}
 use native.Mathlib.Omega.{arith}
@@ -5,14 +6,6 @@ use Rattle.trees.specs.Tree.{find}
 use Rattle.trees.proofs.ByKind.{past}
 use Rattle.trees.proofs.pair_type.Statement.{statement}
 use Rattle.trees.proofs.pair_type.Tie as tie
-use Rattle.trees.proofs.pair_type.Reads as reads
-use Rattle.trees.proofs.pair_type.Lts as lts
-use Rattle.types.proofs.Type.and_b.Reads as and-b-reads
-use Rattle.types.proofs.Type.and_v.Reads as and-v-reads
-use Rattle.types.proofs.Type.or_b.Reads as or-b-reads
-use Rattle.types.proofs.Type.or_c.Reads as or-c-reads
-use Rattle.types.proofs.Type.or_d.Reads as or-d-reads
-use Rattle.types.proofs.Type.or_i.Reads as or-i-reads
 
 and-b-requires : tie.Need-and-b-requires
 and-b-requires c κs = search needs
@@ -55,9 +48,11 @@ returns-5 c = λ context k. simp (c .before .match .keys5, c .or-c .ensures)
 returns-6 : tie.Need-returns-6
 unfolding find
 returns-6 c =
+    let pre = c .before .before .pre in
+    let args = c .before .before .args in
     let rest = c .before .match .rest in
-    let l = past (past (past (past (past (c .before .before .pre .0) (rest .0 .0 .0 .0 .1)) (rest .0 .0 .0 .1)) (rest .0 .0 .1)) (rest .0 .1)) (rest .1) in
-    let e : c .before .before .args .kind ≡ 54 = omega (arith, l) in
+    let l = past (past (past (past (past (pre .0) (rest .0 .0 .0 .0 .1)) (rest .0 .0 .0 .1)) (rest .0 .0 .1)) (rest .0 .1)) (rest .1) in
+    let e : args .kind ≡ 54 = omega (arith, l) in
     λ context k. simp (e, c .or-i .ensures)
 
 pub pair-type-spec : {M : Type 1} → statement M

@@ -1,6 +1,6 @@
+-- `trees::root_type` meets its contract: the last slot is the root. Assumes nothing.
 use borrow.Author.Needs.{needs}
-use mathlib.Core.Path.{_≡_, refl, sym, ap, _∙_}
-use mathlib.Core.Option.{none}
+use mathlib.Core.Path.{refl, sym, ap, _∙_}
 use native.Mathlib.Omega.{arith}
 use Rattle.trees.specs.Reading.{orRefuse, badTree}
 use Rattle.trees.specs.WorkMemory.{slotOf}
@@ -9,9 +9,6 @@ use Prim.Native.Nat.{_-_}
 use lib.ListN.{getD}
 use Rattle.trees.proofs.root_type.Statement.{statement}
 use Rattle.trees.proofs.root_type.Tie as tie
-use Rattle.trees.proofs.root_type.Reads as reads
-use Rattle.trees.proofs.root_type.Lts as lts
-use Rattle.trees.proofs.slot_of.Reads as slot-of-reads
 
 sub-slot-of : tie.Need-sub-slot-of
 sub-slot-of c = search needs
@@ -34,13 +31,15 @@ enum-told c = search needs
 returns : tie.Need-returns
 returns c =
     let args = c .before .before .before .before .before .before .args in
-    let told = free-slot (slotOf (getD (args .work .now) (args .read - 1) 0)) (c .before .before .before .slot-of .ensures) (c .before .t .given .1) in
+    let slot-of = c .before .before .before .slot-of in
+    let told = free-slot (slotOf (getD (args .work .now) (args .read - 1) 0)) (slot-of .ensures) (c .before .t .given .1) in
     (sym (ap (orRefuse badTree) (slot-at (args .work .now) (args .read) (args .read - 1) (omega arith) ∙ told)), refl)
 
 returns-2 : tie.Need-returns-2
 returns-2 c =
     let args = c .before .before .before .before .before .args in
-    let told = taken-slot (slotOf (getD (args .work .now) (args .read - 1) 0)) (c .before .before .slot-of .ensures) (c .enum-told .given .1) in
+    let slot-of = c .before .before .slot-of in
+    let told = taken-slot (slotOf (getD (args .work .now) (args .read - 1) 0)) (slot-of .ensures) (c .enum-told .given .1) in
     (sym (ap (orRefuse badTree) (slot-at (args .work .now) (args .read) (args .read - 1) (omega arith) ∙ told)), refl)
 
 pub root-type-spec : {M : Type 1} → statement M

@@ -1,3 +1,4 @@
+-- `trees::rule_of` meets its contract: a range of kinds at a time, over as many children as the kind has. Assumes nothing.
 use borrow.Author.Needs.{needs}
 use mathlib.Core.Path.{_≡_}
 use native.Mathlib.Omega.{arith}
@@ -5,15 +6,6 @@ use lib.ListN.{length}
 use Rattle.trees.proofs.ByKind.{past, rule-none, rule-one, rule-two, rule-three, rule-all, rule-multi, rule-multi-a}
 use Rattle.trees.proofs.rule_of.Statement.{statement}
 use Rattle.trees.proofs.rule_of.Tie as tie
-use Rattle.trees.proofs.rule_of.Reads as reads
-use Rattle.trees.proofs.rule_of.Lts as lts
-use Rattle.trees.proofs.cast_type.Reads as cast-type-reads
-use Rattle.trees.proofs.leaf_type.Reads as leaf-type-reads
-use Rattle.trees.proofs.multi_a_type.Reads as multi-a-type-reads
-use Rattle.trees.proofs.multi_type.Reads as multi-type-reads
-use Rattle.trees.proofs.pair_type.Reads as pair-type-reads
-use Rattle.types.proofs.Type.and_or.Reads as and-or-reads
-use Rattle.types.proofs.Type.threshold.Reads as threshold-reads
 
 array-copy-out-x : tie.Need-array-copy-out-x
 array-copy-out-x c = search needs
@@ -57,13 +49,15 @@ pair-type-requires c κs = search needs
 returns : tie.Need-returns
 returns c =
     let args = c .before .before .before .before .before .args in
+    let match = c .before .before .before .before .match in
     let len : length (args .t5) ≡ 16 = search needs in
-    rule-three (args .kind) (args .count) (args .k) (args .context) (args .t5) _ len (c .before .before .before .before .match .keys1) (c .and-or .ensures)
+    rule-three (args .kind) (args .count) (args .k) (args .context) (args .t5) _ len (match .keys1) (c .and-or .ensures)
 
 returns-2 : tie.Need-returns-2
 returns-2 c =
     let args = c .before .before .args in
-    rule-all (args .kind) (args .count) (args .k) (args .context) (args .t5) (c .before .match .keys2) (c .before .before .pre .2) (c .threshold .ensures)
+    let pre = c .before .before .pre in
+    rule-all (args .kind) (args .count) (args .k) (args .context) (args .t5) (c .before .match .keys2) (pre .2) (c .threshold .ensures)
 
 returns-3 : tie.Need-returns-3
 returns-3 c =
@@ -78,7 +72,8 @@ returns-4 c =
 returns-5 : tie.Need-returns-5
 returns-5 c =
     let args = c .before .before .before .before .args in
-    rule-none (args .kind) (args .count) (args .k) (args .context) (args .t5) (c .before .if2 .taken) (c .leaf-type .ensures (args .context) (args .k))
+    rule-none (args .kind) (args .count) (args .k) (args .context) (args .t5) (c .before .if2 .taken)
+    (c .leaf-type .ensures (args .context) (args .k))
 
 returns-6 : tie.Need-returns-6
 returns-6 c =

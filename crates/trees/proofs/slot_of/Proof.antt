@@ -1,11 +1,9 @@
+-- `trees::slot_of` meets its contract: a word above the packed types holds nothing. Assumes nothing.
 use borrow.Author.Needs.{needs}
 use Rattle.trees.proofs.ByKind.{slot-large, slot-small}
 use native.Mathlib.Omega.{arith}
 use Rattle.trees.proofs.slot_of.Statement.{statement}
 use Rattle.trees.proofs.slot_of.Tie as tie
-use Rattle.trees.proofs.slot_of.Reads as reads
-use Rattle.trees.proofs.slot_of.Lts as lts
-use Rattle.types.proofs.Type.unpack.Reads as unpack-reads
 
 returns : tie.Need-returns
 returns c = search needs
@@ -29,10 +27,16 @@ enum-told : tie.Need-enum-told
 enum-told c = search needs
 
 returns-3 : tie.Need-returns-3
-returns-3 c = rw (slot-small (c .before .before .before .before .before .before .args .word) (omega arith), ← c .before .before .before .unpack .ensures, c .before .t .given .1)
+returns-3 c =
+    let args = c .before .before .before .before .before .before .args in
+    let unpack = c .before .before .before .unpack in
+    rw (slot-small (args .word) (omega arith), ← unpack .ensures, c .before .t .given .1)
 
 returns-4 : tie.Need-returns-4
-returns-4 c = rw (slot-small (c .before .before .before .before .before .args .word) (omega arith), ← c .before .before .unpack .ensures, c .enum-told .given .1)
+returns-4 c =
+    let args = c .before .before .before .before .before .args in
+    let unpack = c .before .before .unpack in
+    rw (slot-small (args .word) (omega arith), ← unpack .ensures, c .enum-told .given .1)
 
 pub slot-of-spec : {M : Type 1} → statement M
 slot-of-spec =

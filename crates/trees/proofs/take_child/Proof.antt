@@ -1,14 +1,11 @@
+-- `trees::take_child` meets its contract: a slot within the records read, or none. Assumes nothing.
 use borrow.Author.Needs.{needs}
-use mathlib.Core.Path.{_≡_, refl, sym, ap, _∙_}
-use native.Mathlib.Omega.{arith}
+use mathlib.Core.Path.{refl, sym, ap, _∙_}
 use lib.ListN.{length-set}
 use Rattle.trees.specs.WorkMemory.{slotAnswer}
 use Rattle.trees.proofs.InMemory.{slot-at, slot-beyond, slot-taken, slot-not-there}
 use Rattle.trees.proofs.take_child.Statement.{statement}
 use Rattle.trees.proofs.take_child.Tie as tie
-use Rattle.trees.proofs.take_child.Reads as reads
-use Rattle.trees.proofs.take_child.Lts as lts
-use Rattle.trees.proofs.slot_of.Reads as slot-of-reads
 
 mul-word : tie.Need-mul-word
 mul-word c = search needs

@@ -1,20 +1,17 @@
+-- `trees::take_children` meets its contract: those still to come, with those taken before them, are all. Assumes nothing.
 use native.Mathlib.Omega.{arith}
 use lib.ListN.{length-set}
 use mathlib.Core.List.{[]}
 use mathlib.Core.Option.{none}
-use mathlib.Core.Path.{_≡_, refl, sym, ap, _∙_}
+use mathlib.Core.Path.{_≡_, refl, _∙_}
 use Prim.Native.Nat.{_≤_, _-_}
-use lib.ListN.{length, getD, take, length-set, length-replicate}
+use lib.ListN.{length, getD, take, length-set}
 use Rattle.trees.specs.Reading.{takeAll}
 use Rattle.trees.specs.WorkMemory.{slotsIn}
 use Rattle.trees.proofs.InMemory.{ToCome, free-slot, taken-slot, children-start, children-more, children-stop, children-end}
 use borrow.Author.Needs.{needs}
 use Rattle.trees.proofs.take_children.Statement.{statement}
 use Rattle.trees.proofs.take_children.Tie as tie
-use Rattle.trees.proofs.take_children.Reads as reads
-use Rattle.trees.proofs.take_children.Lts as lts
-use Rattle.trees.proofs.take_child.Reads as take-child-reads
-use Rattle.types.proofs.Type.of_false.Reads as of-false-reads
 
 abbrev Inv-loop : tie.InvT-loop
 Inv-loop work₀ read n children types₀ i₀ work types i =
@@ -31,7 +28,9 @@ loop-holds : tie.Need-loop-holds Inv-loop μ-loop
 loop-holds c =
     let args = c .before .before .args in (
       children-start (args .t3) (args .n) _ [] (slotsIn (args .work .now) (args .read)) refl,
-      omega arith, search needs, refl,
+      omega arith,
+      search needs,
+      refl,
     )
 
 mul-child : tie.Need-mul-child Inv-loop μ-loop
@@ -44,7 +43,10 @@ cast-child : tie.Need-cast-child Inv-loop μ-loop
 cast-child c = search needs
 
 take-child-requires : tie.Need-take-child-requires Inv-loop μ-loop
-take-child-requires c κs = omega (arith, c .before .before .loop .inv .3, c .before .before .before .before .before .pre .0)
+take-child-requires c κs =
+    let loop = c .before .before .loop in
+    let pre = c .before .before .before .before .before .pre in
+    omega (arith, loop .inv .3, pre .0)
 
 enum-known-t : tie.Need-enum-known-t Inv-loop μ-loop
 enum-known-t c = search needs
@@ -59,12 +61,13 @@ returns : tie.Need-returns Inv-loop μ-loop
 returns c =
     let args = c .before .before .before .before .before .before .before .before .before .before .args in
     let loop = c .before .before .before .before .before .before .before .loop in
-    let took = c .before .before .before .before .take-child in
+    let take-child = c .before .before .before .before .take-child in
+    let loop-test = c .before .before .before .before .before .before .loop-test in
     let len : length (args .t3) ≡ 16 = search needs in (
-      children-stop (args .t3) (args .n) _ (loop .types) (loop .i) (slotsIn (loop .work) (args .read)) (c .before .before .before .before .before .before .loop-test .taken) (omega arith)
-      (taken-slot (getD (slotsIn (loop .work) (args .read)) (getD (args .t3) (loop .i) 0) none) (took .ensures .0) (c .enum-told .given .1))
-      (loop .inv .0),
-      took .ensures .1 .1 ∙ loop .inv .3,
+      children-stop (args .t3) (args .n) _ (loop .types) (loop .i) (slotsIn (loop .work) (args .read)) (loop-test .taken) (omega arith)
+          (taken-slot (getD (slotsIn (loop .work) (args .read)) (getD (args .t3) (loop .i) 0) none) (take-child .ensures .0) (c .enum-told .given .1))
+          (loop .inv .0),
+      take-child .ensures .1 .1 ∙ loop .inv .3,
     )
 
 mul-types : tie.Need-mul-types Inv-loop μ-loop
@@ -83,15 +86,16 @@ loop-again : tie.Need-loop-again Inv-loop μ-loop
 loop-again c =
     let args = c .before .before .before .before .before .before .before .before .before .before .before .args in
     let loop = c .before .before .before .before .before .before .before .before .loop in
-    let took = c .before .before .before .before .before .take-child in
+    let take-child = c .before .before .before .before .before .take-child in
+    let loop-test = c .before .before .before .before .before .before .before .loop-test in
     let len : length (args .t3) ≡ 16 = search needs in (
-      children-more (args .t3) (args .n) _ (loop .types) (loop .i) (slotsIn (loop .work) (args .read)) _ _ (c .before .before .before .before .before .before .before .loop-test .taken)
-      (omega arith) (omega (arith, loop .inv .2))
-      (free-slot (getD (slotsIn (loop .work) (args .read)) (getD (args .t3) (loop .i) 0) none) (took .ensures .0) (c .before .t .given .1))
-      (took .ensures .1 .0) (loop .inv .0),
+      children-more (args .t3) (args .n) _ (loop .types) (loop .i) (slotsIn (loop .work) (args .read)) _ _ (loop-test .taken)
+          (omega arith) (omega (arith, loop .inv .2))
+          (free-slot (getD (slotsIn (loop .work) (args .read)) (getD (args .t3) (loop .i) 0) none) (take-child .ensures .0) (c .before .t .given .1))
+          (take-child .ensures .1 .0) (loop .inv .0),
       omega arith,
       length-set (loop .types) (loop .i) _ ∙ loop .inv .2,
-      took .ensures .1 .1 ∙ loop .inv .3,
+      take-child .ensures .1 .1 ∙ loop .inv .3,
     )
 
 same-length-2 : tie.Need-same-length-2 Inv-loop μ-loop
