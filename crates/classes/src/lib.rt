@@ -3,10 +3,8 @@
 //
 // Its contracts cite `specs/Classes.antt`. The laws that crates above cite stand in `proofs/Laws.antt`.
 ghost use mathlib.Core.Path.{_≡_};
-ghost use Prim.Native.Nat.{ℕ, _<_, _≤_};
-ghost use lib.ListN.{length};
-ghost use Rattle.policies.specs.Reading.{maxRecords};
-ghost use Rattle.policies.specs.Array.{arrayWords, policyAt, Good, Named};
+ghost use Prim.Native.Nat.{_<_};
+ghost use Rattle.policies.specs.Array.{policyAt, Good, Named};
 ghost use Rattle.classes.specs.Classes.{Decides, Stands, Least, ClassPut, maxNumbers, classPlace, classAt, Classified, ClassesRead};
 use policies::Head;
 use policies::ReadPolicy;

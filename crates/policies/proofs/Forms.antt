@@ -42,6 +42,72 @@ made-again (And l r) = refl
 made-again (Or l r lw rw) = refl
 made-again (Thresh k xs) = ap (Thresh k) (from-to xs)
 
+-- what a policy is, from its kind
+
+module _ (p : Policy) where
+  abbrev pub Is : (kind : ℕ) → Type 0
+  Is kind = kindOf p ≡ kind → p ≡ made kind (numberOf p) (kOf p) (leftWeightOf p) (rightWeightOf p) (childrenOf p)
+
+  from-kind : (kind : ℕ) → Is kind
+  from-kind kind e = sym (made-again p) ∙ ap (λ (x : ℕ). made x (numberOf p) (kOf p) (leftWeightOf p) (rightWeightOf p) (childrenOf p)) e
+
+  pub is-unsatisfiable : kindOf p ≡ 1 → p ≡ Unsatisfiable
+  unfolding made
+  is-unsatisfiable = from-kind 1
+
+  pub is-trivial : kindOf p ≡ 2 → p ≡ Trivial
+  unfolding made
+  is-trivial = from-kind 2
+
+  pub is-key : kindOf p ≡ 3 → p ≡ Key (numberOf p)
+  unfolding made
+  is-key = from-kind 3
+
+  pub is-after : kindOf p ≡ 4 → p ≡ Lock After (numberOf p)
+  unfolding made
+  is-after = from-kind 4
+
+  pub is-older : kindOf p ≡ 5 → p ≡ Lock Older (numberOf p)
+  unfolding made
+  is-older = from-kind 5
+
+  pub is-sha256 : kindOf p ≡ 6 → p ≡ Hash Sha256 (numberOf p)
+  unfolding made
+  is-sha256 = from-kind 6
+
+  pub is-hash256 : kindOf p ≡ 7 → p ≡ Hash Hash256 (numberOf p)
+  unfolding made
+  is-hash256 = from-kind 7
+
+  pub is-ripemd160 : kindOf p ≡ 8 → p ≡ Hash Ripemd160 (numberOf p)
+  unfolding made
+  is-ripemd160 = from-kind 8
+
+  pub is-hash160 : kindOf p ≡ 9 → p ≡ Hash Hash160 (numberOf p)
+  unfolding made
+  is-hash160 = from-kind 9
+
+  pub is-and : kindOf p ≡ 10 → p ≡ And (nth (childrenOf p) 0) (nth (childrenOf p) 1)
+  unfolding made
+  is-and = from-kind 10
+
+  pub is-or : kindOf p ≡ 11 → p ≡ Or (nth (childrenOf p) 0) (nth (childrenOf p) 1) (leftWeightOf p) (rightWeightOf p)
+  unfolding made
+  is-or = from-kind 11
+
+  pub is-thresh : kindOf p ≡ 12 → p ≡ Thresh (kOf p) (fromList (childrenOf p))
+  unfolding made
+  is-thresh = from-kind 12
+
+-- an And and an Or have two children
+pub two-and : (p : Policy) → kindOf p ≡ 10 → length (childrenOf p) ≡ 2
+unfolding childrenOf
+two-and p e = ap (λ (q : Policy). length (childrenOf q)) (is-and p e)
+
+pub two-or : (p : Policy) → kindOf p ≡ 11 → length (childrenOf p) ≡ 2
+unfolding childrenOf
+two-or p e = ap (λ (q : Policy). length (childrenOf q)) (is-or p e)
+
 rebuilt : Head → List Policy → Policy
 rebuilt h cs = made (h .kind) (h .number) (h .k) (h .«left_weight») (h .«right_weight») cs
 

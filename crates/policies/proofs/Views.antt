@@ -1,5 +1,5 @@
 -- The policies that the array's numbers stand for. Crates above cite `stored-is`, `and-is`, `child-is`, `child-falls`, `fold-is`,
--- `fold-falls` and `thresh-some`. Assumes nothing.
+-- `fold-falls`, `thresh-some`, `and-of` and `or-of`. Assumes nothing.
 use mathlib.Core.Path.{_≡_, refl, sym, _∙_, ap, subst}
 use mathlib.Core.Bool.{Bool, true, false}
 use mathlib.Core.List.{List, [], _∷_, _++_, map}
@@ -9,13 +9,13 @@ use borrow.Author.Tests.{lt-ltb, le-ltb, ne-eqb, eqb-true, eqb-false}
 use lib.Dec.{eqb}
 use lib.ListN.{length, getD, length-append, List·getD-append, length-map}
 use lib.Seq.{getD-at}
-use Rattle.policies.specs.Policy.{Policy, Policies, Unsatisfiable, And, Thresh, toList, fromList, weight, foldAnd, folded}
+use Rattle.policies.specs.Policy.{Policy, Policies, Unsatisfiable, And, Thresh, toList, fromList, weight, foldAnd, folded, Or}
 use Rattle.policies.specs.Forms.{made, nth, kindOf, numberOf, kOf, leftWeightOf, rightWeightOf, childrenOf}
 use Rattle.policies.specs.Heads.{headOf, pairHead}
 use Rattle.policies.specs.declared.Head.{Head}
 use Rattle.policies.specs.Array.{wordAt, kindAt, childAt, arity, countAt, wordsFrom, childrenAt, rowPolicy, policies, recordPolicy, andPolicy}
 use Rattle.policies.specs.Array.{andNumber, ofRecord, place, policyAt, Good, Named, stored, folds, rowChild, childNumber, foldNumber}
-use Rattle.policies.proofs.Forms.{from-to, children-made, thresh-made}
+use Rattle.policies.proofs.Forms.{is-and, is-or, two-and, two-or, from-to, children-made, thresh-made}
 use Rattle.policies.proofs.Weights.{child-weight, folded-lighter}
 
 -- ---- words in a row
@@ -259,6 +259,25 @@ module _ (m : List ℕ) (g : Good m) where
   -- the search falls from a policy to its children
   pub child-falls : (r j : ℕ) → Named m r → j < length (childrenOf (policyAt m r)) → weight (policyAt m (childNumber m r j)) < weight (policyAt m r)
   child-falls r j named l = rw (child-is r j named l .is) (child-weight (policyAt m r) j l)
+
+  -- an And and an Or, by the numbers of their children
+  pub and-of : (r : ℕ) → Named m r → kindOf (policyAt m r) ≡ 10 → policyAt m r ≡ And (policyAt m (childNumber m r 0)) (policyAt m (childNumber m r 1))
+  and-of r named e =
+      let two = two-and (policyAt m r) e in
+      is-and (policyAt m r) e
+      ∙ ap (λ (x : Policy). And x (nth (childrenOf (policyAt m r)) 1)) (sym (child-is r 0 named (omega arith) .is))
+      ∙ ap (λ (x : Policy). And (policyAt m (childNumber m r 0)) x) (sym (child-is r 1 named (omega arith) .is))
+
+  pub or-of : (r : ℕ) → Named m r → kindOf (policyAt m r) ≡ 11
+      → policyAt m r
+      ≡ Or (policyAt m (childNumber m r 0)) (policyAt m (childNumber m r 1)) (leftWeightOf (policyAt m r)) (rightWeightOf (policyAt m r))
+  or-of r named e =
+      let two = two-or (policyAt m r) e in
+      let left : ℕ = leftWeightOf (policyAt m r) in
+      let right : ℕ = rightWeightOf (policyAt m r) in
+      is-or (policyAt m r) e
+      ∙ ap (λ (x : Policy). Or x (nth (childrenOf (policyAt m r)) 1) left right) (sym (child-is r 0 named (omega arith) .is))
+      ∙ ap (λ (x : Policy). Or (policyAt m (childNumber m r 0)) x left right) (sym (child-is r 1 named (omega arith) .is))
 
 -- ---- heads
 

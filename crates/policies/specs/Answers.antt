@@ -8,7 +8,8 @@ use lib.ListN.{length}
 use Rattle.policies.specs.Policy.{Policy}
 use Rattle.policies.specs.Reading.{Answer, refused, done, Next, rootOf, finish, readPolicy, without, badPolicy, zeroWeight}
 use Rattle.policies.specs.Reading.{policyTooLarge, maxRecords}
-use Rattle.policies.specs.Array.{rowWords, arrayWords, wordAt, takenAt, childAt, wordsFrom, slotsAt, recordPolicy, policyAt, Good, putHead, putChildren}
+use Rattle.policies.specs.Array.{rowWords, arrayWords, wordAt, takenAt, childAt, wordsFrom, slotsAt, recordPolicy, policyAt, Good, putHead}
+use Rattle.policies.specs.Array.{putChildren}
 use Rattle.records.specs.declared.Parts.{Parts}
 use Rattle.policies.specs.declared.Step.{Step}
 use Rattle.policies.specs.declared.Step.the-variants as Step

@@ -47,7 +47,7 @@ pub no-record : treeOf [] ≡ refused badTree
 unfolding rootOf readFrom readTree treeOf
 no-record = refl
 
--- Multi in Tapscript, also where the bytes behind it are no record: records are taken in order
+-- Multi in Tap, also where the bytes behind it are no record: records are taken in order
 pub multi-in-tapscript : checkOf 1 multi 4096 ≡ refused illTyped
 unfolding little leAt u16s u32s lookUp shapeOf payloadOf takeAll rootOf addRecord readFrom readTree find typeOf typedTreeOf checkOf
 multi-in-tapscript = refl

@@ -1,2 +1,3 @@
--- What a reader of this crate must believe, in reading order.
 pub mod Writing
+pub mod WellFormed
+pub mod ReadBack

@@ -11,7 +11,6 @@ use Rattle.trees.specs.Fragment.{AndB, AndV, OrB, OrD, OrC, OrI, AndOr, Thresh,
 -- ---- what each fragment's record holds
 
 infixr 50 _▸_
-
 mutual
   -- A record with those below it: its kind, the bytes of its payload before the children, and the children.
   pub data Node : Type 0 where
@@ -21,9 +20,11 @@ mutual
     nil : Nodes
     _▸_ : Node → Nodes → Nodes
 
+-- a record with no children
 abbrev pub leaf : (kind : ℕ) → (payload : List ℕ) → Node
 leaf kind payload = node kind payload nil
 
+-- a record whose payload is its children
 abbrev pub above : (kind : ℕ) → Nodes → Node
 above kind children = node kind [] children
 
@@ -46,6 +47,7 @@ hashKind Hash256 = 39
 hashKind Ripemd160 = 40
 hashKind Hash160 = 41
 
+-- each fragment, in document 01's order of kinds
 unfoldable mutual
   pub nodeOf : Fragment → Node
   nodeOf False = leaf 32 []

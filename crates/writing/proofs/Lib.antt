@@ -1,0 +1,11 @@
+pub mod Rows
+pub mod Slots
+pub mod OneRecord
+pub mod NodeReading
+pub mod ReadBack
+pub mod Kept
+pub mod Makers
+pub mod WellRead
+pub mod ReadSize
+pub mod ReadAgain
+pub mod Clauses
