@@ -6,7 +6,7 @@ ghost use mathlib.Core.Path.{_≡_};
 ghost use Prim.Native.Nat.{_≤_};
 ghost use Rattle.figures.specs.Bounds.{Small};
 ghost use Rattle.candidates.specs.Candidates.{candidate, costAt};
-ghost use Rattle.candidates.specs.Leaves.{sigType, leaf, FALSE, TRUE, pkK, pkH, after, older};
+ghost use Rattle.candidates.specs.Leaves.{sigType, FALSE, TRUE, pkK, pkH, after, older};
 ghost use Rattle.candidates.specs.Leaves.{sha256, hash256, ripemd160, hash160, multi, multiA};
 ghost use Rattle.candidates.specs.Casts.{check, dupif, likely, unlikely, verify, nonzero, true′, swap, alt, zeronotequal};
 ghost use Rattle.candidates.specs.Casts.{castBy, castOf};

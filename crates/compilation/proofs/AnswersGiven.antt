@@ -27,7 +27,7 @@ use Rattle.compilation.specs.Search.{bestOf, bests, mostGaining, othersA
 use Rattle.writing.specs.Writing.{inRow, nodeOf, nodesOf, count, counts, owns, written, writtenAll}
 use Rattle.compilation.specs.Compile.{bestCompilation, compilePolicy, compile}
 use Rattle.compilation.specs.AnswersOfTheRust.{Line, right, hexOnto, sameBytes, allRight, answers}
-use Rattle.compilation.specs.AnswersOfTheRust.{part-a, part-b, part-c, part-d, part-e, part-f, part-g, part-h}
+use Rattle.compilation.specs.AnswersOfTheRust.{part-a, part-b, part-c, part-d, part-e, part-f, part-g, part-h, part-i, part-j, part-k}
 
 and-intro : (a b : Bool) → a ≡ true → b ≡ true → a && b ≡ true
 and-intro true b p q = q
@@ -168,14 +168,62 @@ unfolding allRight part-h hexOnto sameBytes compile compilePolicy bestCompilatio
     add sub mul div lt eq le ofBits toBits ofInt
 right-h = refl
 
+right-i : allRight part-i ≡ true
+unfolding allRight part-i hexOnto sameBytes compile compilePolicy bestCompilation
+    little leAt bytesOf u16s u32s shapeOf lookUp payloadOf made fromList without readWhole readRecord rootOf finish readFrom readPolicy depth deepest
+    searcher searchers searching remembering lookup same sameAll then forEach castsOf wrapped cheapest
+    insertClosure closure castAll insert any filter enter cost1d inRow toList nodeOf nodesOf count counts owns written writtenAll
+    checkLocalValidity checkGlobalValidity fromAst ext.falseExt ext.trueExt ext.pkK ext.pkH ext.multi ext.multiA
+    ext.sha256 ext.hash256 ext.ripemd160 ext.hash160 ext.after ext.older ext.castAlt ext.castSwap ext.castCheck
+    ext.castDupif ext.castVerify ext.castNonzero ext.castZeronotequal ext.castTrue ext.castUnlikely ext.castLikely
+    ext.andB ext.andV ext.orB ext.orC ext.orD ext.orI ext.andOr
+    cost.orB cost.orC cost.orD cost.orI cost.andOr cost.threshold cost.plusAll
+    threshold satisfied worst together tryFold sortBy insertBy lists.all lists.sum fragments threshOf
+    andBody andOrs fourOf orBody bestOf bests mostGaining othersAsW arranged keysOf foldAnds threshBody
+    add sub mul div lt eq le ofBits toBits ofInt
+right-i = refl
+
+right-j : allRight part-j ≡ true
+unfolding allRight part-j hexOnto sameBytes compile compilePolicy bestCompilation
+    little leAt bytesOf u16s u32s shapeOf lookUp payloadOf made fromList without readWhole readRecord rootOf finish readFrom readPolicy depth deepest
+    searcher searchers searching remembering lookup same sameAll then forEach castsOf wrapped cheapest
+    insertClosure closure castAll insert any filter enter cost1d inRow toList nodeOf nodesOf count counts owns written writtenAll
+    checkLocalValidity checkGlobalValidity fromAst ext.falseExt ext.trueExt ext.pkK ext.pkH ext.multi ext.multiA
+    ext.sha256 ext.hash256 ext.ripemd160 ext.hash160 ext.after ext.older ext.castAlt ext.castSwap ext.castCheck
+    ext.castDupif ext.castVerify ext.castNonzero ext.castZeronotequal ext.castTrue ext.castUnlikely ext.castLikely
+    ext.andB ext.andV ext.orB ext.orC ext.orD ext.orI ext.andOr
+    cost.orB cost.orC cost.orD cost.orI cost.andOr cost.threshold cost.plusAll
+    threshold satisfied worst together tryFold sortBy insertBy lists.all lists.sum fragments threshOf
+    andBody andOrs fourOf orBody bestOf bests mostGaining othersAsW arranged keysOf foldAnds threshBody
+    add sub mul div lt eq le ofBits toBits ofInt
+right-j = refl
+
+right-k : allRight part-k ≡ true
+unfolding allRight part-k hexOnto sameBytes compile compilePolicy bestCompilation
+    little leAt bytesOf u16s u32s shapeOf lookUp payloadOf made fromList without readWhole readRecord rootOf finish readFrom readPolicy depth deepest
+    searcher searchers searching remembering lookup same sameAll then forEach castsOf wrapped cheapest
+    insertClosure closure castAll insert any filter enter cost1d inRow toList nodeOf nodesOf count counts owns written writtenAll
+    checkLocalValidity checkGlobalValidity fromAst ext.falseExt ext.trueExt ext.pkK ext.pkH ext.multi ext.multiA
+    ext.sha256 ext.hash256 ext.ripemd160 ext.hash160 ext.after ext.older ext.castAlt ext.castSwap ext.castCheck
+    ext.castDupif ext.castVerify ext.castNonzero ext.castZeronotequal ext.castTrue ext.castUnlikely ext.castLikely
+    ext.andB ext.andV ext.orB ext.orC ext.orD ext.orI ext.andOr
+    cost.orB cost.orC cost.orD cost.orI cost.andOr cost.threshold cost.plusAll
+    threshold satisfied worst together tryFold sortBy insertBy lists.all lists.sum fragments threshOf
+    andBody andOrs fourOf orBody bestOf bests mostGaining othersAsW arranged keysOf foldAnds threshBody
+    add sub mul div lt eq le ofBits toBits ofInt
+right-k = refl
+
 pub answers-given : allRight answers ≡ true
 unfolding answers
 answers-given =
-    both-right part-a (part-b ++ (part-c ++ (part-d ++ (part-e ++ (part-f ++ (part-g ++ (part-h))))))) right-a
-    (both-right part-b (part-c ++ (part-d ++ (part-e ++ (part-f ++ (part-g ++ (part-h)))))) right-b
-    (both-right part-c (part-d ++ (part-e ++ (part-f ++ (part-g ++ (part-h))))) right-c
-    (both-right part-d (part-e ++ (part-f ++ (part-g ++ (part-h)))) right-d
-    (both-right part-e (part-f ++ (part-g ++ (part-h))) right-e
-    (both-right part-f (part-g ++ (part-h)) right-f
-    (both-right part-g (part-h) right-g
-    (right-h)))))))
+    both-right part-a (part-b ++ (part-c ++ (part-d ++ (part-e ++ (part-f ++ (part-g ++ (part-h ++ (part-i ++ (part-j ++ (part-k)))))))))) right-a
+    (both-right part-b (part-c ++ (part-d ++ (part-e ++ (part-f ++ (part-g ++ (part-h ++ (part-i ++ (part-j ++ (part-k))))))))) right-b
+    (both-right part-c (part-d ++ (part-e ++ (part-f ++ (part-g ++ (part-h ++ (part-i ++ (part-j ++ (part-k)))))))) right-c
+    (both-right part-d (part-e ++ (part-f ++ (part-g ++ (part-h ++ (part-i ++ (part-j ++ (part-k))))))) right-d
+    (both-right part-e (part-f ++ (part-g ++ (part-h ++ (part-i ++ (part-j ++ (part-k)))))) right-e
+    (both-right part-f (part-g ++ (part-h ++ (part-i ++ (part-j ++ (part-k))))) right-f
+    (both-right part-g (part-h ++ (part-i ++ (part-j ++ (part-k)))) right-g
+    (both-right part-h (part-i ++ (part-j ++ (part-k))) right-h
+    (both-right part-i (part-j ++ (part-k)) right-i
+    (both-right part-j (part-k) right-j
+    (right-k))))))))))

@@ -1,15 +1,9 @@
 -- Policies, written from document 01, "Records": each of its twelve policy kinds is here under its own name; their depth, and the weighted
 -- size and the fold to Ands of its section "Forms that must change", in the words of policy/compiler.rs, `best_compilations`.
 -- Assumes nothing: these are definitions.
+use Rattle.terms.specs.Leaves.{LockKind, HashKind}
 use mathlib.Core.List.{List, [], _∷_}
 use Prim.Native.Nat.{ℕ, suc, _+_, max}
-
--- The two locks and the four hashes are kinds of one form each: `Lock After n`, `Lock Older n`, `Hash Sha256 h` and so on.
-pub data LockKind : Type 0 where
-  After Older : LockKind
-
-pub data HashKind : Type 0 where
-  Sha256 Hash256 Ripemd160 Hash160 : HashKind
 
 infixr 50 _▹_
 mutual

@@ -1,0 +1,4 @@
+pub mod Reading
+pub mod Copying
+pub mod Taking
+pub mod Telling
