@@ -50,13 +50,13 @@ fn counted(text: &str) -> String {
     patched(&text, store, &format!("        crate::room::store(policy_cache.len());\n{store}"))
 }
 
-/// Links the port's library where CLASPWILLOW_LIB names one.
-fn link_port() {
-    println!("cargo:rerun-if-env-changed=CLASPWILLOW_LIB");
-    println!("cargo:rustc-check-cfg=cfg(port)");
-    let Some(library) = env::var_os("CLASPWILLOW_LIB").map(PathBuf::from) else { return };
-    let Ok(library) = library.canonicalize() else { stop(&format!("CLASPWILLOW_LIB: there is no {}", library.display())) };
-    println!("cargo:rustc-cfg=port");
+/// Links a library of the port where an environment variable names one, and tells the program so.
+fn link(variable: &str, told: &str) {
+    println!("cargo:rerun-if-env-changed={variable}");
+    println!("cargo:rustc-check-cfg=cfg({told})");
+    let Some(library) = env::var_os(variable).map(PathBuf::from) else { return };
+    let Ok(library) = library.canonicalize() else { stop(&format!("{variable}: there is no {}", library.display())) };
+    println!("cargo:rustc-cfg={told}");
     println!("cargo:rerun-if-changed={}", library.display());
     println!("cargo:rustc-link-arg={}", library.display());
 }
@@ -95,7 +95,8 @@ fn main() {
         .concat(),
     );
 
-    link_port();
+    link("CLASPWILLOW_LIB", "port");
+    link("CLASPWILLOW_PROBE", "probe");
     println!("cargo:rerun-if-env-changed=MINISCRIPT_SRC");
     println!("cargo:rerun-if-changed=build.rs");
     println!("cargo:rerun-if-changed=src/accessor.rs");

@@ -50,12 +50,14 @@ mod check;
 mod figures;
 mod oracle;
 mod policies;
-#[cfg(port)]
+#[cfg(any(port, probe))]
 mod port;
 mod random;
 mod records;
 mod room;
-#[cfg(port)]
+#[cfg(probe)]
+mod rules;
+#[cfg(any(port, probe))]
 mod trees;
 
 use std::io::{self, BufWriter, Write};
@@ -72,14 +74,18 @@ const USAGE: &str = "usage:
   bench answers                        writes the stored list, answers/compile.txt, anew
   bench figures                        compares the Rust's costs with document 01's figures
   bench check SEED COUNT MAXRECORDS    runs COUNT random trees of each flavour and context through the Rust's type rules and the port
+  bench rules SEED COUNT               runs COUNT rules in each context over random candidates through the Rust and the port
 ";
 
 /// The search recurses, so the work is done on a thread with room for it.
 const STACK: usize = 512 << 20;
 
+fn number(word: &str) -> Result<u64, String> {
+    word.parse::<u64>().map_err(|_| format!("bench: `{word}` is no number\n{USAGE}"))
+}
+
 /// SEED, COUNT and MAXRECORDS, the last of them at most `most`.
 fn numbers(words: [&str; 3], most: u64) -> Result<(u64, u64, usize), String> {
-    let number = |word: &str| word.parse::<u64>().map_err(|_| format!("bench: `{word}` is no number\n{USAGE}"));
     let (seed, count, records) = (number(words[0])?, number(words[1])?, number(words[2])?);
     if !(1..=most).contains(&records) {
         return Err(format!("bench: MAXRECORDS is {records}, not 1 to {most}\n"));
@@ -115,6 +121,16 @@ fn check(_: [&str; 3]) -> Result<bool, String> {
     Err("bench: built without the port; CLASPWILLOW_LIB names its library when bench is built (docs/BENCH.md)\n".to_string())
 }
 
+#[cfg(probe)]
+fn rules(words: [&str; 2]) -> Result<bool, String> {
+    Ok(rules::run(number(words[0])?, number(words[1])?))
+}
+
+#[cfg(not(probe))]
+fn rules(_: [&str; 2]) -> Result<bool, String> {
+    Err("bench: built without crate probe; CLASPWILLOW_PROBE names its library when bench is built (docs/BENCH.md)\n".to_string())
+}
+
 /// Whether all is well; or what is wrong with the words.
 fn run(words: &[&str]) -> Result<bool, String> {
     match *words {
@@ -132,6 +148,7 @@ fn run(words: &[&str]) -> Result<bool, String> {
             }
         },
         ["check", seed, count, records] => check([seed, count, records]),
+        ["rules", seed, count] => rules([seed, count]),
         ["figures"] => Ok(figures::run()),
         _ => Err(USAGE.to_string()),
     }

@@ -1,7 +1,9 @@
 //! The port, called as C calls it.
 
+#[cfg(port)]
 use std::slice;
 
+#[cfg(port)]
 extern "C" {
     fn claspwillow_check(context: u32, tree: *const u8, tree_len: usize, work: *mut u64, work_len: usize, ty: *mut u32) -> u32;
     fn claspwillow_check_work() -> usize;
@@ -13,12 +15,14 @@ extern "C" {
 }
 
 /// The words of work memory that the check asks for.
+#[cfg(port)]
 pub fn check_work() -> usize {
     // SAFETY: the function takes nothing.
     unsafe { claspwillow_check_work() }
 }
 
 /// The number, and the packed type as the call left it.
+#[cfg(port)]
 pub fn check(context: u32, tree: &[u8], work: &mut [u64], ty: &mut u32) -> u32 {
     // SAFETY: each slice is passed as its own pointer and length.
     unsafe { claspwillow_check(context, tree.as_ptr(), tree.len(), work.as_mut_ptr(), work.len(), slice::from_mut(ty).as_mut_ptr()) }

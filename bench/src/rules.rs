@@ -22,7 +22,7 @@ const LOCAL_VALIDITY: u32 = 17;
 const GLOBAL_VALIDITY: u32 = 18;
 const FROM_AST: u32 = 19;
 const COST: u32 = 20;
-const COST_WITHOUT: u32 = 21;
+/// The last rule, 21, is the cost where dissatisfaction never occurs.
 const RULES: usize = 22;
 
 /// What the probe returns.
