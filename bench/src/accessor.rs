@@ -90,3 +90,8 @@ pub fn cost_and_or(a: Pair, b: Pair, c: Pair, weights: [f64; 2]) -> Pair {
 pub fn cost_at<Pk: MiniscriptKey, Ctx: ScriptContext>(ms: Miniscript<Pk, Ctx>, cost: Pair, sat: f64, dissat: Option<f64>) -> f64 {
     AstElemExt { ms: Arc::new(ms), comp_ext_data: data(cost, None) }.cost_1d(sat, dissat)
 }
+
+/// The cost of a Thresh.
+pub fn cost_threshold(k: usize, subs: &[Pair]) -> Pair {
+    pair(CompilerExtData::threshold(k, subs.len(), |i| data(subs[i], None)))
+}

@@ -50,14 +50,14 @@ mod check;
 mod figures;
 mod oracle;
 mod policies;
-#[cfg(any(port, probe))]
+#[cfg(any(port, all(probe, probe_thresholds)))]
 mod port;
 mod random;
 mod records;
 mod room;
-#[cfg(probe)]
+#[cfg(all(probe, probe_thresholds))]
 mod rules;
-#[cfg(any(port, probe))]
+#[cfg(any(port, all(probe, probe_thresholds)))]
 mod trees;
 
 use std::io::{self, BufWriter, Write};
@@ -74,7 +74,7 @@ const USAGE: &str = "usage:
   bench answers                        writes the stored list, answers/compile.txt, anew
   bench figures                        compares the Rust's costs with document 01's figures
   bench check SEED COUNT MAXRECORDS    runs COUNT random trees of each flavour and context through the Rust's type rules and the port
-  bench rules SEED COUNT               runs COUNT rules in each context over random candidates through the Rust and the port
+  bench rules SEED COUNT               runs COUNT rules in each context and COUNT thresholds over random candidates through the Rust and the port
 ";
 
 /// The search recurses, so the work is done on a thread with room for it.
@@ -121,14 +121,15 @@ fn check(_: [&str; 3]) -> Result<bool, String> {
     Err("bench: built without the port; CLASPWILLOW_LIB names its library when bench is built (docs/BENCH.md)\n".to_string())
 }
 
-#[cfg(probe)]
+#[cfg(all(probe, probe_thresholds))]
 fn rules(words: [&str; 2]) -> Result<bool, String> {
-    Ok(rules::run(number(words[0])?, number(words[1])?))
+    let (seed, count) = (number(words[0])?, number(words[1])?);
+    Ok(rules::run(seed, count) & rules::thresholds(seed, count))
 }
 
-#[cfg(not(probe))]
+#[cfg(not(all(probe, probe_thresholds)))]
 fn rules(_: [&str; 2]) -> Result<bool, String> {
-    Err("bench: built without crate probe; CLASPWILLOW_PROBE names its library when bench is built (docs/BENCH.md)\n".to_string())
+    Err("bench: built without crates probe and probe_thresholds; CLASPWILLOW_PROBE and CLASPWILLOW_PROBE_THRESHOLDS name their libraries (docs/BENCH.md)\n".to_string())
 }
 
 /// Whether all is well; or what is wrong with the words.

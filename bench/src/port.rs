@@ -9,8 +9,9 @@ extern "C" {
     fn claspwillow_check_work() -> usize;
 }
 
-#[cfg(probe)]
+#[cfg(all(probe, probe_thresholds))]
 extern "C" {
+    fn claspwillow_probe_threshold(k: u32, input: *const u64, input_len: usize, out: *mut u64, out_len: usize) -> u32;
     fn claspwillow_probe(context: u32, rule: u32, p: u64, q: u64, input: *const u64, input_len: usize, out: *mut u64, out_len: usize) -> u32;
 }
 
@@ -29,9 +30,16 @@ pub fn check(context: u32, tree: &[u8], work: &mut [u64], ty: &mut u32) -> u32 {
 }
 
 /// One rule on candidates given as words (crate `probe`): its number, and what it left in `out`.
-#[cfg(probe)]
+#[cfg(all(probe, probe_thresholds))]
 pub fn probe(context: u32, rule: u32, weights: [u64; 2], input: &[u64], out: &mut [u64]) -> u32 {
     let [p, q] = weights;
     // SAFETY: each slice is passed as its own pointer and length.
     unsafe { claspwillow_probe(context, rule, p, q, input.as_ptr(), input.len(), out.as_mut_ptr(), out.len()) }
+}
+
+/// A Thresh of k over candidates given as words (crate `probe_thresholds`).
+#[cfg(all(probe, probe_thresholds))]
+pub fn probe_threshold(k: u32, input: &[u64], out: &mut [u64]) -> u32 {
+    // SAFETY: each slice is passed as its own pointer and length.
+    unsafe { claspwillow_probe_threshold(k, input.as_ptr(), input.len(), out.as_mut_ptr(), out.len()) }
 }

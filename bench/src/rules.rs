@@ -7,7 +7,7 @@ use crate::miniscript::context::{Segwitv0, Tap};
 use crate::miniscript::types::extra_props::{SatData, TimelockInfo};
 use crate::miniscript::types::{Base, Correctness, Dissat, ErrorKind, ExtData, Input, Malleability, Type};
 use crate::miniscript::ScriptContext;
-use crate::policy::costed::{cost_and_or, cost_at, cost_cast, cost_pair, cost_rule, Pair};
+use crate::policy::costed::{cost_and_or, cost_at, cost_cast, cost_pair, cost_rule, cost_threshold, Pair};
 use crate::random::Random;
 use crate::trees::packed;
 use crate::{port, AbsLockTime, Miniscript, RelLockTime, Terminal, Threshold, MAX_RECURSION_DEPTH};
@@ -298,4 +298,81 @@ fn one_context<Ctx: ScriptContext>(context: u32, seed: u64, count: u64) -> bool 
         given[0], given[1], given[2]
     );
     differences == 0
+}
+
+/// Figures that can have entered a table: none exceeds the bytes of the script, no size five times those, and the script is no longer than a block.
+fn entered_figures(random: &mut Random) -> ExtData {
+    let most = *random.pick(&[3, 40, 200, 4_000_000]);
+    let bytes = random.between(1, most);
+    let case = |random: &mut Random| {
+        (!random.once_in(12)).then(|| SatData {
+            max_witness_stack_size: random.between(0, 5 * bytes),
+            max_witness_stack_count: random.between(0, bytes.min(6)),
+            max_script_sig_size: random.between(0, 5 * bytes),
+            max_exec_stack_count: random.between(0, bytes.min(3)),
+            max_exec_op_count: random.between(0, bytes),
+        })
+    };
+    ExtData {
+        pk_cost: bytes,
+        has_free_verify: random.once_in(2),
+        static_ops: random.between(0, bytes),
+        sat_data: case(random),
+        dissat_data: case(random),
+        timelock_info: TimelockInfo::new(),
+        tree_height: random.below(500),
+    }
+}
+
+/// A child of a Thresh: mostly of a type that suits its place.
+fn child(random: &mut Random, place: usize) -> Sample {
+    let mut ty = unpacked(random.below(960));
+    if !random.once_in(24) {
+        ty.corr.base = if place == 0 { Base::B } else { Base::W };
+        ty.corr.unit = true;
+        ty.corr.dissatisfiable = true;
+    }
+    if !random.once_in(6) {
+        ty.mall.dissat = Dissat::Unique;
+        ty.mall.safe = !random.once_in(4);
+    }
+    let dissat = (!random.once_in(40)).then(|| float(random));
+    Sample { kind: 44, ty, ext: entered_figures(random), cost: (float(random), dissat) }
+}
+
+/// COUNT thresholds over random children; gives whether the port and the Rust agree on all of them.
+pub fn thresholds(seed: u64, count: u64) -> bool {
+    crate::oracle::while_answers(|| {
+        let mut random = Random::new(seed);
+        let (mut differences, mut given) = (0u64, [0u64; 3]);
+        for _ in 0..count {
+            let n = random.between(1, 16);
+            let k = random.between(1, n);
+            let xs: Vec<Sample> = (0..n).map(|i| child(&mut random, i)).collect();
+            let input: Vec<u64> = xs.iter().flat_map(Sample::words).collect();
+            let before = [random.next(); WORDS];
+            let mut out = before;
+            let number = port::probe_threshold(k as u32, &input, &mut out);
+            let types: Vec<Type> = xs.iter().map(|x| x.ty).collect();
+            let costs: Vec<Pair> = xs.iter().map(|x| x.cost).collect();
+            let ext = || ExtData::threshold(k, n, |i| xs[i].ext);
+            let (wanted, words) = match costed(56, Type::threshold(k, types.iter()), ext, || cost_threshold(k, &costs)) {
+                Given::Sample(x) => (MADE, x.words()),
+                Given::Missing => (MISSING, before),
+                _ => (ILL_TYPED, before),
+            };
+            given[wanted as usize] += 1;
+            if (number, out) != (wanted, words) {
+                differences += 1;
+                if differences <= 10 {
+                    println!("thresh {k} of {n}, input {input:?}:\n  the Rust gives {wanted} {words:?}\n  the port gives {number} {out:?}");
+                }
+            }
+        }
+        println!(
+            "{count} thresholds; made {}, ill-typed {}, a dissatisfaction cost missing {}; {differences} differences",
+            given[0], given[1], given[2]
+        );
+        differences == 0
+    })
 }

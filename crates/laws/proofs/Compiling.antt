@@ -21,12 +21,15 @@ use Rattle.compilation.specs.Candidates.{Candidate, kindOf}
 use Rattle.compilation.specs.Tables.{costAt}
 use Rattle.compilation.specs.Refusals.{State, state, Res, NodesFull, TopLevelNonSafe, OutputTooSmall, BadWork}
 use Rattle.compilation.specs.Search.{isBaseB}
+use Rattle.writing.specs.WellFormed.{AllBelow}
 use Rattle.writing.specs.Writing.{size, bytesOfTree}
 use Rattle.compilation.specs.Compile.{maxRecords, rootProbs, bestCompilation, compiled, refusedWith, outcome, compilePolicy}
 use Rattle.compilation.specs.Compile.{compileRead, compileIn, contextOf, compile}
+use Rattle.laws.specs.FormedPolicy.{FormedPolicy}
 use Rattle.laws.specs.Laws.{nobody, Entry, ProperState, Gives, refuses, gives, Keeps, Sound}
 use Rattle.laws.proofs.Keeping.{pure-keeps, refuse-keeps, cond-keeps, bind-keeps}
 use Rattle.laws.proofs.Searching.{cheapest-of, chosen-keeps, search-proper}
+use Rattle.laws.proofs.Reading.{reads-formed}
 
 -- ---- the root
 
@@ -42,10 +45,10 @@ is-B K h = absurd (false≢true h)
 is-B «V» h = absurd (false≢true h)
 is-B W h = absurd (false≢true h)
 
-pub bestCompilation-keeps : (c : Context) (q : Policy) → Keeps c (RootWell c) (bestCompilation c q)
+pub bestCompilation-keeps : (c : Context) (q : Policy) → FormedPolicy q → Keeps c (RootWell c) (bestCompilation c q)
 unfolding bestCompilation
-bestCompilation-keeps c q =
-    bind-keeps (search-proper c q rootProbs) λ t h.
+bestCompilation-keeps c q w =
+    bind-keeps (search-proper c q rootProbs w) λ t h.
     bind-keeps (chosen-keeps (cheapest-of rootProbs isBaseB (h .entries))) λ x k.
     cond-keeps (x .ty .mall .safe)
     (λ s. pure-keeps (record { entry = k .is; base = is-B _ (k .suited); safe = s }))
@@ -64,10 +67,10 @@ both false b h = absurd (false≢true h)
 never : {A : Type 0} {bytes : List ℕ} {cost nodes e : ℕ} → refusedWith e ≡ compiled bytes cost nodes → A
 never h = let z : _≡_ {A = ℕ} 0 1 = cc in absurd (omega arith)
 
-pub compiled-is-sound : (c : Context) (room : ℕ) (q : Policy) (bytes : List ℕ) (cost nodes : ℕ) →
+pub compiled-is-sound : (c : Context) (room : ℕ) (q : Policy) (bytes : List ℕ) (cost nodes : ℕ) → FormedPolicy q →
     compilePolicy c room q ≡ compiled bytes cost nodes → Sound c room bytes nodes
 unfolding compilePolicy
-compiled-is-sound c room q bytes cost nodes h = by-answer (bestCompilation-keeps c q .from (state 0 []) (start-proper c)) h
+compiled-is-sound c room q bytes cost nodes w h = by-answer (bestCompilation-keeps c q w .from (state 0 []) (start-proper c)) h
   where
     fitted : (x : Candidate) (s : State) (word : ℕ) (b : Bool) → (leb (size (x .tree)) maxRecords && leb (length (bytesOfTree (x .tree))) room) ≡ b →
         RootWell c x → ProperState c s →
@@ -85,6 +88,7 @@ compiled-is-sound c room q bytes cost nodes h = by-answer (bestCompilation-keeps
           written = sym same-bytes;
           within = leb-true _ _ (test .0);
           fits = subst (λ b. length b ≤ room) same-bytes (leb-true _ _ (test .1));
+          formed = r .entry .good .formed;
           typed = r .entry .good .typed;
           base = r .base;
           safe = r .safe;
@@ -98,11 +102,11 @@ compiled-is-sound c room q bytes cost nodes h = by-answer (bestCompilation-keeps
     by-answer (gives {a = x} {s′ = s} r g l) h =
         fitted x s (wordOfFloat (costAt rootProbs x)) (leb (size (x .tree)) maxRecords && leb (length (bytesOfTree (x .tree))) room) refl r g h
 
--- a policy that is not compiled is refused with one of the numbers from NodesFull to OutputTooSmall
-pub refused-is-named : (c : Context) (room : ℕ) (q : Policy) (n : ℕ) →
+-- a policy that can be written and is not compiled is refused with one of the numbers from NodesFull to OutputTooSmall
+pub refused-is-named : (c : Context) (room : ℕ) (q : Policy) (n : ℕ) → FormedPolicy q →
     compilePolicy c room q ≡ refusedWith n → (NodesFull ≤ n) × (n ≤ OutputTooSmall)
 unfolding compilePolicy
-refused-is-named c room q n h = by-answer (bestCompilation-keeps c q .from (state 0 []) (start-proper c)) h
+refused-is-named c room q n w h = by-answer (bestCompilation-keeps c q w .from (state 0 []) (start-proper c)) h
   where
     same-number : {m : ℕ} → NodesFull ≤ m → m ≤ OutputTooSmall → refusedWith m ≡ refusedWith n → (NodesFull ≤ n) × (n ≤ OutputTooSmall)
     same-number {m} a b h = let e : m ≡ n = cc in omega arith
@@ -118,19 +122,20 @@ refused-is-named c room q n h = by-answer (bestCompilation-keeps c q .from (stat
         by-test (leb (size (x .tree)) maxRecords && leb (length (bytesOfTree (x .tree))) room) (bytesOfTree (x .tree)) _ _ h
 
 -- the whole of compile is sound, in the context of the number that it was given
-pub compile-is-sound : (context : ℕ) (workFits : Bool) (policy : List ℕ) (room : ℕ) (bytes : List ℕ) (cost nodes : ℕ) →
+pub compile-is-sound : (context : ℕ) (workFits : Bool) (policy : List ℕ) (room : ℕ) (bytes : List ℕ) (cost nodes : ℕ) → AllBelow 256 policy →
     compile context workFits policy room ≡ compiled bytes cost nodes →
     (c : Context) × (contextOf context ≡ some c) × Sound c room bytes nodes
 unfolding compile
-compile-is-sound context workFits policy room bytes cost nodes h = by-context (contextOf context) refl h
+compile-is-sound context workFits policy room bytes cost nodes below h = by-context (contextOf context) refl h
   where
-    by-reading : (c : Context) (a : Reading.Answer Policy) → compileRead c room a ≡ compiled bytes cost nodes → Sound c room bytes nodes
-    by-reading c (Reading.refused n) h = never h
-    by-reading c (Reading.done q) h = compiled-is-sound c room q bytes cost nodes h
+    by-reading : (c : Context) (a : Reading.Answer Policy) → readPolicy policy ≡ a → compileRead c room a ≡ compiled bytes cost nodes →
+        Sound c room bytes nodes
+    by-reading c (Reading.refused n) e h = never h
+    by-reading c (Reading.done q) e h = compiled-is-sound c room q bytes cost nodes (reads-formed policy below q e) h
 
     by-work : (c : Context) (b : Bool) → cond b (compileRead c room (readPolicy policy)) (refusedWith BadWork) ≡ compiled bytes cost nodes →
         Sound c room bytes nodes
-    by-work c true h = by-reading c (readPolicy policy) h
+    by-work c true h = by-reading c (readPolicy policy) refl h
     by-work c false h = never h
 
     by-context : (o : Option Context) → contextOf context ≡ o → compileIn context workFits room policy o ≡ compiled bytes cost nodes →

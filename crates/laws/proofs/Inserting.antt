@@ -84,7 +84,7 @@ pub record QueuedWell (c : Context) (p : Probs) (w : Queued) : Type 0 where
   pub table : ProperAt c p (w .table)
   pub queue : All (Good c) (w .queue)
 
-all-append : {A : Type 0} {P : A → Type 0} {xs ys : List A} → All P xs → All P ys → All P (xs ++ ys)
+pub all-append : {A : Type 0} {P : A → Type 0} {xs ys : List A} → All P xs → All P ys → All P (xs ++ ys)
 all-append nobody k = k
 all-append (h and hs) k = h and all-append hs k
 

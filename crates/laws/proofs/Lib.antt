@@ -6,5 +6,7 @@ pub mod Sorting
 pub mod Keeping
 pub mod Inserting
 pub mod Searching
+pub mod Reading
 pub mod Compiling
+pub mod Passing
 pub mod Steps

@@ -1,9 +1,9 @@
--- Every search gives a proper table, and leaves a proper state that has grown: by induction on the policy.
+-- Every search of a policy that can be written gives a proper table, and leaves a proper state that has grown: by induction on the policy.
 use mathlib.Core.Bool.{Bool, true, false, cond, _&&_}
 use mathlib.Core.List.{List, [], _∷_}
 use mathlib.Core.Option.{Option, none, some}
-use mathlib.Core.Path.{_≡_, refl}
-use Prim.Native.Nat.{ℕ, zero, suc}
+use mathlib.Core.Path.{_≡_, refl, sym, ap, subst, _∙_}
+use Prim.Native.Nat.{ℕ, zero, suc, _^_}
 use native.Mathlib.Omega.{arith}
 use lib.Dec.{eqb}
 use lib.ListN.{length}
@@ -15,17 +15,19 @@ use Rattle.costs.specs.declared.DissatProb.{DissatProb}
 use Rattle.costs.specs.declared.DissatProb.the-variants as Prob
 use Rattle.costs.specs.Arithmetic.{0·, 1·}
 use Rattle.costs.specs.Weights.{weights}
-use Rattle.policies.specs.Policy.{Policy, Policies, end, _▹_, Unsatisfiable, Trivial, Key, Lock, Hash, And, Or, Thresh}
+use Rattle.policies.specs.Policy.{Policy, Policies, end, _▹_, toList, Unsatisfiable, Trivial, Key, Lock, Hash, And, Or, Thresh}
+use Rattle.writing.specs.WellFormed.{AllBelow, IsThreshold}
 use Rattle.compilation.specs.Candidates.{Candidate, Cast, Made, Pair}
 use Rattle.compilation.specs.Tables.{Probs, Table, costAt}
 use Rattle.compilation.specs.Refusals.{Stored, M, lookup, sameProbs}
 use Rattle.compilation.specs.Refusals.{NotACost, LimitsExceeded}
 use Rattle.compilation.specs.SamePolicy.{same}
 use Rattle.compilation.specs.Search.{Again, never, redo, forEach, insertedIfTyped, castsOf, wrapped, wrappedIfMade, binary, ternary}
-use Rattle.compilation.specs.Search.{cheaper, cheapest, chosen, suitsThresh, Searcher, plain, conjunction, searchOf, kept, foundOr}
+use Rattle.compilation.specs.Search.{cheaper, cheapest, chosen, suitsThresh, Searcher, plain, conjunction, policyOf, searchOf, kept, foundOr}
 use Rattle.compilation.specs.Search.{remembering, Body, without, againAt, searching, leaves, andBody, andOrs, Four, fourOf, orBody}
-use Rattle.compilation.specs.Search.{Best, bestOf, bests, nth, othersAsW, arranged, keysOf, multiOf, andSearcher, foldAnds}
+use Rattle.compilation.specs.Search.{Best, bestOf, bests, nth, othersAsW, arranged, keyOr, keysOf, multiOf, andSearcher, foldAnds}
 use Rattle.compilation.specs.Search.{foldedOr, threshBody, searcher, searchers, search}
+use Rattle.laws.specs.FormedPolicy.{FormedPolicy, AllFormed}
 use Rattle.laws.specs.Laws.{All, nobody, _and_, IfSome, noneIs, someIs, IfMade, passedIs, missingIs, madeIs}
 use Rattle.laws.specs.Laws.{Good, empty, Proper, ProperAt, Keeps}
 use Rattle.laws.proofs.Typed.{CastsWell, casts-good, PairsWell, andB-good, andV-good, orB-good, orD-good, orC-good, orI-good}
@@ -164,15 +166,19 @@ pub searching-keeps : {c : Context} (q : Policy) {body : Body} → BodyWell c bo
 unfolding searching
 searching-keeps q h p = remembering-keeps q p (h p _ (again-well q p (p .dissat) h))
 
--- a searcher gives proper tables, and of an And its two sides do too
+-- a searcher of a policy that can be written gives proper tables, and of an And its two sides do too
 pub data SearchesWell (c : Context) : Searcher → Type 0 where
-  plainIs : {q : Policy} {f : Probs → M Table} → ((p : Probs) → Keeps c (Proper c) (f p)) → SearchesWell c (plain q f)
-  conjunctionIs : {q : Policy} {f : Probs → M Table} {l r : Searcher} → ((p : Probs) → Keeps c (Proper c) (f p)) →
+  plainIs : {q : Policy} {f : Probs → M Table} → FormedPolicy q → ((p : Probs) → Keeps c (Proper c) (f p)) → SearchesWell c (plain q f)
+  conjunctionIs : {q : Policy} {f : Probs → M Table} {l r : Searcher} → FormedPolicy q → ((p : Probs) → Keeps c (Proper c) (f p)) →
       SearchesWell c l → SearchesWell c r → SearchesWell c (conjunction q f l r)
 
 pub search-keeps : {c : Context} {s : Searcher} → SearchesWell c s → (p : Probs) → Keeps c (Proper c) (searchOf s p)
-search-keeps (plainIs h) p = h p
-search-keeps (conjunctionIs h l r) p = h p
+search-keeps (plainIs w h) p = h p
+search-keeps (conjunctionIs w h l r) p = h p
+
+policy-formed : {c : Context} {s : Searcher} → SearchesWell c s → FormedPolicy (policyOf s)
+policy-formed (plainIs w h) = w
+policy-formed (conjunctionIs w h l r) = w
 
 -- ---- leaves and And
 
@@ -203,8 +209,8 @@ module _ {c : Context} {l r : Searcher} (lh : SearchesWell c l) (rh : SearchesWe
 pub andOrs-keeps : {c : Context} {p : Probs} {g : Again} {s other : Searcher} {t : Table} (w v : Float) → AgainWell c g → SearchesWell c s →
     SearchesWell c other → ProperAt c p t → Keeps c (ProperAt c p) (andOrs c p g s other w v t)
 unfolding andOrs
-andOrs-keeps w v a (plainIs k) o h = pure-keeps h
-andOrs-keeps w v a (conjunctionIs k x y) o h =
+andOrs-keeps w v a (plainIs f k) o h = pure-keeps h
+andOrs-keeps w v a (conjunctionIs f k x y) o h =
     bind-keeps (search-keeps x _) λ a₁ i₁.
     bind-keeps (search-keeps x _) λ a₂ i₂.
     bind-keeps (search-keeps y _) λ b₁ j₁.
@@ -261,10 +267,18 @@ bestOf-keeps p h =
     bind-keeps (chosen-keeps (cheapest-of p (suitsThresh W) (goods k))) λ w j.
     pure-keeps (record { e = i .is; w = j .is })
 
-pub bests-keeps : {c : Context} (p : Probs) {ss : List Searcher} → All (SearchesWell c) ss → Keeps c (All (BestWell c)) (bests p ss)
+-- as many as were asked for
+pub record BestsWell (c : Context) (n : ℕ) (bs : List Best) : Type 0 where
+  pub each : All (BestWell c) bs
+  pub as-many : length bs ≡ n
+
+pub bests-keeps : {c : Context} (p : Probs) {ss : List Searcher} → All (SearchesWell c) ss → Keeps c (BestsWell c (length ss)) (bests p ss)
 unfolding bests
-bests-keeps p nobody = pure-keeps nobody
-bests-keeps p (h and hs) = bind-keeps (bestOf-keeps p h) λ b i. bind-keeps (bests-keeps p hs) λ bs is. pure-keeps (i and is)
+bests-keeps p nobody = pure-keeps (record { each = nobody; as-many = refl })
+bests-keeps p (h and hs) =
+    bind-keeps (bestOf-keeps p h) λ b i.
+    bind-keeps (bests-keeps p hs) λ bs is.
+    pure-keeps (record { each = i and is .each; as-many = ap suc (is .as-many) })
 
 nth-well : {c : Context} (n : ℕ) {b : Best} {bs : List Best} → BestWell c b → All (BestWell c) bs → BestWell c (nth n b bs)
 nth-well n h nobody = h
@@ -286,13 +300,48 @@ unfolding arranged
 arranged-well m nobody = nobody
 arranged-well m (h and hs) = nth-well m h (h and hs) .e and others-well m 1 h hs
 
-multiOf-keeps : {c : Context} {p : Probs} {g : Again} {t : Table} (k : ℕ) (keys : Option (List ℕ)) → AgainWell c g → ProperAt c p t →
-    Keeps c (ProperAt c p) (multiOf c p g k keys t)
-multiOf-keeps k none a h = pure-keeps h
-multiOf-keeps {c} k (some keys) a h = wrapped-keeps a (multi-good c k keys) h
+others-length : (b : Best) (m place : ℕ) (bs : List Best) → length (othersAsW b m place bs) ≡ length bs
+unfolding othersAsW
+others-length b m place [] = refl
+others-length b m place (x ∷ xs) = ap suc (others-length b m (suc place) xs)
+
+arranged-length : (m : ℕ) (bs : List Best) → length (arranged m bs) ≡ length bs
+unfolding arranged
+arranged-length m [] = refl
+arranged-length m (b ∷ bs) = ap suc (others-length b m 1 bs)
+
+-- so many keys, each of which can be written
+pub record KeysWell (n : ℕ) (keys : List ℕ) : Type 0 where
+  pub below : AllBelow (2 ^ 32) keys
+  pub as-many : length keys ≡ n
+
+key-or : {n : ℕ} {keys : Option (List ℕ)} (q : Policy) → FormedPolicy q → IfSome (KeysWell n) keys → IfSome (KeysWell (suc n)) (keyOr q keys)
+unfolding FormedPolicy AllBelow
+key-or (Key n) w noneIs = noneIs
+key-or (Key n) w (someIs {x = keys} h) = someIs {x = n ∷ keys} (record { below = (w, h .below); as-many = ap suc (h .as-many) })
+key-or Unsatisfiable w h = noneIs
+key-or Trivial w h = noneIs
+key-or (Lock kind n) w h = noneIs
+key-or (Hash kind n) w h = noneIs
+key-or (And l r) w h = noneIs
+key-or (Or l r u v) w h = noneIs
+key-or (Thresh k xs) w h = noneIs
+
+keys-of : {c : Context} {ss : List Searcher} → All (SearchesWell c) ss → IfSome (KeysWell (length ss)) (keysOf ss)
+unfolding keysOf AllBelow
+keys-of nobody = someIs (record { below = tt; as-many = refl })
+keys-of (_and_ {x = s} h hs) = key-or (policyOf s) (policy-formed h) (keys-of hs)
+
+multiOf-keeps : {c : Context} {p : Probs} {g : Again} {t : Table} {n : ℕ} (k : ℕ) {keys : Option (List ℕ)} → IsThreshold k n →
+    IfSome (KeysWell n) keys → AgainWell c g → ProperAt c p t → Keeps c (ProperAt c p) (multiOf c p g k keys t)
+multiOf-keeps k w noneIs a h = pure-keeps h
+multiOf-keeps {c} k w (someIs {x = keys} i) a h =
+    wrapped-keeps a (multi-good c k keys (subst (IsThreshold k) (sym (i .as-many)) w) (i .below)) h
 
 andSearcher-well : {c : Context} {l r : Searcher} → SearchesWell c l → SearchesWell c r → SearchesWell c (andSearcher c l r)
-andSearcher-well lh rh = conjunctionIs (searching-keeps _ (andBody-well lh rh)) lh rh
+unfolding FormedPolicy
+andSearcher-well {l} {r} lh rh =
+    conjunctionIs {q = And (policyOf l) (policyOf r)} (policy-formed lh, policy-formed rh) (searching-keeps _ (andBody-well lh rh)) lh rh
 
 pub foldAnds-well : {c : Context} {s : Searcher} {ss : List Searcher} → SearchesWell c s → All (SearchesWell c) ss →
     SearchesWell c (foldAnds c s ss)
@@ -306,35 +355,44 @@ foldedOr-keeps p k nobody h = pure-keeps h
 foldedOr-keeps p k (_and_ {xs = ss} s gs) h =
     cond-keeps (eqb k (suc (length ss))) (λ _. search-keeps (foldAnds-well s gs) p) (λ _. pure-keeps h)
 
-pub threshBody-well : {c : Context} (k : ℕ) {ss : List Searcher} → All (SearchesWell c) ss → BodyWell c (threshBody c k ss)
+pub threshBody-well : {c : Context} (k : ℕ) {ss : List Searcher} → IsThreshold k (length ss) → All (SearchesWell c) ss →
+    BodyWell c (threshBody c k ss)
 unfolding threshBody
-threshBody-well k {ss} hs p g a =
+threshBody-well k {ss} w hs p g a =
     bind-keeps (bests-keeps _ hs) λ bs is.
-    bind-keeps (wrappedIfMade-keeps a (thresh-good k _ (arranged-well _ is)) no-entries) λ t h.
-    bind-keeps (multiOf-keeps k (keysOf ss) a h) λ t h.
+    bind-keeps (wrappedIfMade-keeps a (thresh-good k _ (subst (IsThreshold k) (sym (arranged-length _ bs ∙ is .as-many)) w)
+    (arranged-well _ (is .each))) no-entries) λ t h.
+    bind-keeps (multiOf-keeps k w (keys-of hs) a h) λ t h.
     foldedOr-keeps p k hs (h .proper)
 
 -- ---- every policy
 
+as-many-searchers : (c : Context) (xs : Policies) → length (searchers c xs) ≡ length (toList xs)
+unfolding searchers toList
+as-many-searchers c end = refl
+as-many-searchers c (x ▹ xs) = ap suc (as-many-searchers c xs)
+
 mutual
-  unfolding searcher
+  unfolding searcher FormedPolicy
 
-  pub searcher-well : (c : Context) (q : Policy) → SearchesWell c (searcher c q)
-  searcher-well c Unsatisfiable = plainIs (searching-keeps _ (leaves-well (false-good c and nobody)))
-  searcher-well c Trivial = plainIs (searching-keeps _ (leaves-well (true-good c and nobody)))
-  searcher-well c (Key n) = plainIs (searching-keeps _ (leaves-well (pkH-good c n and pkK-good c n and nobody)))
-  searcher-well c (Lock kind n) = plainIs (searching-keeps _ (leaves-well (lock-good c kind n and nobody)))
-  searcher-well c (Hash kind n) = plainIs (searching-keeps _ (leaves-well (hash-good c kind n and nobody)))
-  searcher-well c (And l r) =
-      conjunctionIs (searching-keeps _ (andBody-well (searcher-well c l) (searcher-well c r))) (searcher-well c l) (searcher-well c r)
-  searcher-well c (Or l r lw rw) =
-      plainIs (searching-keeps _ (orBody-well (weights lw rw .lw) (weights lw rw .rw) (searcher-well c l) (searcher-well c r)))
-  searcher-well c (Thresh k xs) = plainIs (searching-keeps _ (threshBody-well k (searchers-well c xs)))
+  pub searcher-well : (c : Context) (q : Policy) → FormedPolicy q → SearchesWell c (searcher c q)
+  searcher-well c Unsatisfiable w = plainIs w (searching-keeps _ (leaves-well (false-good c and nobody)))
+  searcher-well c Trivial w = plainIs w (searching-keeps _ (leaves-well (true-good c and nobody)))
+  searcher-well c (Key n) w = plainIs w (searching-keeps _ (leaves-well (pkH-good c n w and pkK-good c n w and nobody)))
+  searcher-well c (Lock kind n) w = plainIs w (searching-keeps _ (leaves-well (lock-good c kind n w and nobody)))
+  searcher-well c (Hash kind n) w = plainIs w (searching-keeps _ (leaves-well (hash-good c kind n w and nobody)))
+  searcher-well c (And l r) w =
+      conjunctionIs w (searching-keeps _ (andBody-well (searcher-well c l (w .0)) (searcher-well c r (w .1))))
+      (searcher-well c l (w .0)) (searcher-well c r (w .1))
+  searcher-well c (Or l r lw rw) w =
+      plainIs w (searching-keeps _ (orBody-well (weights lw rw .lw) (weights lw rw .rw) (searcher-well c l (w .0)) (searcher-well c r (w .1))))
+  searcher-well c (Thresh k xs) w =
+      plainIs w (searching-keeps _ (threshBody-well k (subst (IsThreshold k) (sym (as-many-searchers c xs)) (w .0)) (searchers-well c xs (w .1))))
 
-  pub searchers-well : (c : Context) (xs : Policies) → All (SearchesWell c) (searchers c xs)
-  searchers-well c end = nobody
-  searchers-well c (x ▹ xs) = searcher-well c x and searchers-well c xs
+  pub searchers-well : (c : Context) (xs : Policies) → AllFormed xs → All (SearchesWell c) (searchers c xs)
+  searchers-well c end w = nobody
+  searchers-well c (x ▹ xs) w = searcher-well c x (w .0) and searchers-well c xs (w .1)
 
--- the search of a policy, at whatever probabilities, gives a proper table
-pub search-proper : (c : Context) (q : Policy) (p : Probs) → Keeps c (Proper c) (search c q p)
-search-proper c q p = search-keeps (searcher-well c q) p
+-- the search of a policy that can be written, at whatever probabilities, gives a proper table
+pub search-proper : (c : Context) (q : Policy) (p : Probs) → FormedPolicy q → Keeps c (Proper c) (search c q p)
+search-proper c q p w = search-keeps (searcher-well c q w) p

@@ -1,9 +1,10 @@
--- Every candidate that is made of good ones is good: its tree is well-typed, of the type that it says, and has the figures that it says.
+-- Every candidate that is made of good ones is good: its tree is well-typed, of the type that it says, has the figures that it says, and can be
+-- written.
 use mathlib.Core.Bool.{Bool, true, false, _&&_, _||_}
-use mathlib.Core.List.{List, _∷_, map}
+use mathlib.Core.List.{List, [], _∷_, map}
 use mathlib.Core.Option.{Option, some}
-use mathlib.Core.Path.{_≡_, refl, ap, _∙_}
-use Prim.Native.Nat.{ℕ}
+use mathlib.Core.Path.{_≡_, refl, ap, _∙_, sym, subst}
+use Prim.Native.Nat.{ℕ, suc, _^_}
 use lib.ListN.{length}
 use lib.Ieee.{Float}
 use Rattle.terms.specs.declared.Context.{Context}
@@ -31,9 +32,10 @@ use Rattle.costs.specs.declared.Cost.{Cost}
 use Rattle.costs.specs.declared.Costed.{Costed}
 use Rattle.costs.specs.declared.Costed.the-variants as Costed
 use Rattle.costs.specs.Rules as cost
-use Rattle.trees.specs.Fragment.{Fragment, Thresh}
+use Rattle.trees.specs.Fragment.{Fragment, Thresh, toList}
 use Rattle.trees.specs.Typing.{typeOf, typesOf, allTyped, andAll}
 use Rattle.trees.specs.Typing as typing
+use Rattle.writing.specs.WellFormed.{AllBelow, IsU32, IsLock, IsThreshold, WellFormed, AllWellFormed}
 use Rattle.compilation.specs.Candidates.{Candidate, Made, typedAs, madeAs, ifValid}
 use Rattle.compilation.specs.Candidates.{Cast, castCheck, castDupif, castLikely, castUnlikely, castVerify, castNonzero, castTrue}
 use Rattle.compilation.specs.Candidates.{castSwap, castAlt, castZeronotequal, allCasts}
@@ -45,34 +47,34 @@ use Rattle.laws.specs.Laws.{IfSome, noneIs, someIs, IfMade, passedIs, mi
 -- ---- leaves
 
 pub false-good : (c : Context) → Good c false′
-unfolding typeOf figuresOf
-false-good c = record { typed = refl; figured = refl }
+unfolding typeOf figuresOf WellFormed
+false-good c = record { typed = refl; figured = refl; formed = tt }
 
 pub true-good : (c : Context) → Good c true′
-unfolding typeOf figuresOf
-true-good c = record { typed = refl; figured = refl }
+unfolding typeOf figuresOf WellFormed
+true-good c = record { typed = refl; figured = refl; formed = tt }
 
-pub pkK-good : (c : Context) (n : ℕ) → Good c (pkK c n)
-unfolding typeOf figuresOf
-pkK-good c n = record { typed = refl; figured = refl }
+pub pkK-good : (c : Context) (n : ℕ) → IsU32 n → Good c (pkK c n)
+unfolding typeOf figuresOf WellFormed
+pkK-good c n w = record { typed = refl; figured = refl; formed = w }
 
-pub pkH-good : (c : Context) (n : ℕ) → Good c (pkH c n)
-unfolding typeOf figuresOf
-pkH-good c n = record { typed = refl; figured = refl }
+pub pkH-good : (c : Context) (n : ℕ) → IsU32 n → Good c (pkH c n)
+unfolding typeOf figuresOf WellFormed
+pkH-good c n w = record { typed = refl; figured = refl; formed = w }
 
-pub lock-good : (c : Context) (kind : LockKind) (n : ℕ) → Good c (lock kind n)
-unfolding typeOf figuresOf
-lock-good c kind n = record { typed = refl; figured = refl }
+pub lock-good : (c : Context) (kind : LockKind) (n : ℕ) → IsLock n → Good c (lock kind n)
+unfolding typeOf figuresOf WellFormed
+lock-good c kind n w = record { typed = refl; figured = refl; formed = w }
 
-pub hash-good : (c : Context) (kind : HashKind) (h : ℕ) → Good c (hash kind h)
-unfolding typeOf figuresOf
-hash-good c kind h = record { typed = refl; figured = refl }
+pub hash-good : (c : Context) (kind : HashKind) (h : ℕ) → IsU32 h → Good c (hash kind h)
+unfolding typeOf figuresOf WellFormed
+hash-good c kind h w = record { typed = refl; figured = refl; formed = w }
 
 -- each context has the form of its own
-pub multi-good : (c : Context) (k : ℕ) (keys : List ℕ) → Good c (multi c k keys)
-unfolding typeOf figuresOf
-multi-good Segwitv0 k keys = record { typed = refl; figured = refl }
-multi-good Tap k keys = record { typed = refl; figured = refl }
+pub multi-good : (c : Context) (k : ℕ) (keys : List ℕ) → IsThreshold k (length keys) → AllBelow (2 ^ 32) keys → Good c (multi c k keys)
+unfolding typeOf figuresOf WellFormed
+multi-good Segwitv0 k keys w b = record { typed = refl; figured = refl; formed = (w, b) }
+multi-good Tap k keys w b = record { typed = refl; figured = refl; formed = (w, b) }
 
 -- ---- casts
 
@@ -80,9 +82,9 @@ bind-ok : {r : TypeResult} {t : «Type»} (rule : «Type» → TypeResult) → r
 bind-ok rule e = ap (λ r. typing._>>=_ r rule) e
 
 typed-as : {c : Context} (r : TypeResult) (f : Fragment) (e : ExtData) (k : Cost) →
-    typeOf c f ≡ r → e ≡ figuresOf c f → IfSome (Good c) (typedAs r f e k)
-typed-as (Ok t) f e k p q = someIs (record { typed = p; figured = q })
-typed-as IllTyped f e k p q = noneIs
+    typeOf c f ≡ r → e ≡ figuresOf c f → WellFormed f → IfSome (Good c) (typedAs r f e k)
+typed-as (Ok t) f e k p q w = someIs (record { typed = p; figured = q; formed = w })
+typed-as IllTyped f e k p q w = noneIs
 
 -- the three casts that are pairs with a constant have its type
 
@@ -159,47 +161,50 @@ true-type t = rw (true-corr (t .corr), true-mall (t .mall))
 
 module _ {c : Context} {x : Candidate} (g : Good c x) where
   pub check-good : IfSome (Good c) (castCheck x)
-  unfolding typeOf figuresOf
-  check-good = typed-as _ _ _ _ (bind-ok type.castCheck (g .typed)) (ap ext.castCheck (g .figured))
+  unfolding typeOf figuresOf WellFormed
+  check-good = typed-as _ _ _ _ (bind-ok type.castCheck (g .typed)) (ap ext.castCheck (g .figured)) (g .formed)
 
   pub dupif-good : IfSome (Good c) (castDupif x)
-  unfolding typeOf figuresOf
-  dupif-good = typed-as _ _ _ _ (bind-ok type.castDupif (g .typed)) (ap ext.castDupif (g .figured))
+  unfolding typeOf figuresOf WellFormed
+  dupif-good = typed-as _ _ _ _ (bind-ok type.castDupif (g .typed)) (ap ext.castDupif (g .figured)) (g .formed)
 
   pub likely-good : IfSome (Good c) (castLikely x)
-  unfolding typeOf figuresOf ext.castLikely
+  unfolding typeOf figuresOf WellFormed ext.castLikely
   likely-good =
       typed-as _ _ _ _ (bind-ok (λ t. type.orI type.FALSE t) (g .typed) ∙ likely-type (x .ty)) (ap (λ e. ext.orI ext.falseExt e) (g .figured))
+      (tt, g .formed)
 
   pub unlikely-good : IfSome (Good c) (castUnlikely x)
-  unfolding typeOf figuresOf ext.castUnlikely
+  unfolding typeOf figuresOf WellFormed ext.castUnlikely
   unlikely-good =
       typed-as _ _ _ _ (bind-ok (λ t. type.orI t type.FALSE) (g .typed) ∙ unlikely-type (x .ty)) (ap (λ e. ext.orI e ext.falseExt) (g .figured))
+      (g .formed, tt)
 
   pub verify-good : IfSome (Good c) (castVerify x)
-  unfolding typeOf figuresOf
-  verify-good = typed-as _ _ _ _ (bind-ok type.castVerify (g .typed)) (ap ext.castVerify (g .figured))
+  unfolding typeOf figuresOf WellFormed
+  verify-good = typed-as _ _ _ _ (bind-ok type.castVerify (g .typed)) (ap ext.castVerify (g .figured)) (g .formed)
 
   pub nonzero-good : IfSome (Good c) (castNonzero x)
-  unfolding typeOf figuresOf
-  nonzero-good = typed-as _ _ _ _ (bind-ok type.castNonzero (g .typed)) (ap ext.castNonzero (g .figured))
+  unfolding typeOf figuresOf WellFormed
+  nonzero-good = typed-as _ _ _ _ (bind-ok type.castNonzero (g .typed)) (ap ext.castNonzero (g .figured)) (g .formed)
 
   pub true-cast-good : IfSome (Good c) (castTrue x)
-  unfolding typeOf figuresOf ext.castTrue
+  unfolding typeOf figuresOf WellFormed ext.castTrue
   true-cast-good =
       typed-as _ _ _ _ (bind-ok (λ t. type.andV t type.TRUE) (g .typed) ∙ true-type (x .ty)) (ap (λ e. ext.andV e ext.trueExt) (g .figured))
+      (g .formed, tt)
 
   pub swap-good : IfSome (Good c) (castSwap x)
-  unfolding typeOf figuresOf
-  swap-good = typed-as _ _ _ _ (bind-ok type.castSwap (g .typed)) (ap ext.castSwap (g .figured))
+  unfolding typeOf figuresOf WellFormed
+  swap-good = typed-as _ _ _ _ (bind-ok type.castSwap (g .typed)) (ap ext.castSwap (g .figured)) (g .formed)
 
   pub alt-good : IfSome (Good c) (castAlt x)
-  unfolding typeOf figuresOf
-  alt-good = typed-as _ _ _ _ (bind-ok type.castAlt (g .typed)) (ap ext.castAlt (g .figured))
+  unfolding typeOf figuresOf WellFormed
+  alt-good = typed-as _ _ _ _ (bind-ok type.castAlt (g .typed)) (ap ext.castAlt (g .figured)) (g .formed)
 
   pub zeronotequal-good : IfSome (Good c) (castZeronotequal x)
-  unfolding typeOf figuresOf
-  zeronotequal-good = typed-as _ _ _ _ (bind-ok type.castZeronotequal (g .typed)) (ap ext.castZeronotequal (g .figured))
+  unfolding typeOf figuresOf WellFormed
+  zeronotequal-good = typed-as _ _ _ _ (bind-ok type.castZeronotequal (g .typed)) (ap ext.castZeronotequal (g .figured)) (g .formed)
 
 -- a cast makes a good candidate of a good one, if it makes one
 abbrev pub CastsWell : Context → Cast → Type 0
@@ -214,10 +219,10 @@ casts-good c =
 -- ---- pairs and triples
 
 made-as : {c : Context} (r : TypeResult) (f : Fragment) (e : ExtData) (k : Costed) →
-    typeOf c f ≡ r → e ≡ figuresOf c f → IfMade (Good c) (madeAs r f e k)
-made-as (Ok t) f e (Costed.Cost k) p q = madeIs (record { typed = p; figured = q })
-made-as (Ok t) f e Costed.Missing p q = missingIs
-made-as IllTyped f e k p q = passedIs
+    typeOf c f ≡ r → e ≡ figuresOf c f → WellFormed f → IfMade (Good c) (madeAs r f e k)
+made-as (Ok t) f e (Costed.Cost k) p q w = madeIs (record { typed = p; figured = q; formed = w })
+made-as (Ok t) f e Costed.Missing p q w = missingIs
+made-as IllTyped f e k p q w = passedIs
 
 -- a pair of good candidates is good, if it is made, whatever the weights
 abbrev pub PairsWell : Context → Pair → Type 0
@@ -232,28 +237,28 @@ figures₂ rule p q = cc
 
 module _ {c : Context} (lw rw : Float) (x y : Candidate) (g : Good c x) (h : Good c y) where
   pub andB-good : IfMade (Good c) (andB lw rw x y)
-  unfolding typeOf figuresOf
-  andB-good = made-as _ _ _ _ (bind-ok₂ type.andB (g .typed) (h .typed)) (figures₂ ext.andB (g .figured) (h .figured))
+  unfolding typeOf figuresOf WellFormed
+  andB-good = made-as _ _ _ _ (bind-ok₂ type.andB (g .typed) (h .typed)) (figures₂ ext.andB (g .figured) (h .figured)) (g .formed, h .formed)
 
   pub andV-good : IfMade (Good c) (andV lw rw x y)
-  unfolding typeOf figuresOf
-  andV-good = made-as _ _ _ _ (bind-ok₂ type.andV (g .typed) (h .typed)) (figures₂ ext.andV (g .figured) (h .figured))
+  unfolding typeOf figuresOf WellFormed
+  andV-good = made-as _ _ _ _ (bind-ok₂ type.andV (g .typed) (h .typed)) (figures₂ ext.andV (g .figured) (h .figured)) (g .formed, h .formed)
 
   pub orB-good : IfMade (Good c) (orB lw rw x y)
-  unfolding typeOf figuresOf
-  orB-good = made-as _ _ _ _ (bind-ok₂ type.orB (g .typed) (h .typed)) (figures₂ ext.orB (g .figured) (h .figured))
+  unfolding typeOf figuresOf WellFormed
+  orB-good = made-as _ _ _ _ (bind-ok₂ type.orB (g .typed) (h .typed)) (figures₂ ext.orB (g .figured) (h .figured)) (g .formed, h .formed)
 
   pub orD-good : IfMade (Good c) (orD lw rw x y)
-  unfolding typeOf figuresOf
-  orD-good = made-as _ _ _ _ (bind-ok₂ type.orD (g .typed) (h .typed)) (figures₂ ext.orD (g .figured) (h .figured))
+  unfolding typeOf figuresOf WellFormed
+  orD-good = made-as _ _ _ _ (bind-ok₂ type.orD (g .typed) (h .typed)) (figures₂ ext.orD (g .figured) (h .figured)) (g .formed, h .formed)
 
   pub orC-good : IfMade (Good c) (orC lw rw x y)
-  unfolding typeOf figuresOf
-  orC-good = made-as _ _ _ _ (bind-ok₂ type.orC (g .typed) (h .typed)) (figures₂ ext.orC (g .figured) (h .figured))
+  unfolding typeOf figuresOf WellFormed
+  orC-good = made-as _ _ _ _ (bind-ok₂ type.orC (g .typed) (h .typed)) (figures₂ ext.orC (g .figured) (h .figured)) (g .formed, h .formed)
 
   pub orI-good : IfMade (Good c) (orI lw rw x y)
-  unfolding typeOf figuresOf
-  orI-good = made-as _ _ _ _ (bind-ok₂ type.orI (g .typed) (h .typed)) (figures₂ ext.orI (g .figured) (h .figured))
+  unfolding typeOf figuresOf WellFormed
+  orI-good = made-as _ _ _ _ (bind-ok₂ type.orI (g .typed) (h .typed)) (figures₂ ext.orI (g .figured) (h .figured)) (g .formed, h .formed)
 
 bind-ok₃ : {r s u : TypeResult} {t v w : «Type»} (rule : «Type» → «Type» → «Type» → TypeResult) → r ≡ Ok t → s ≡ Ok v → u ≡ Ok w →
     typing._>>=_ r (λ t. typing._>>=_ s λ v. typing._>>=_ u λ w. rule t v w) ≡ rule t v w
@@ -263,9 +268,10 @@ figures₃ : {d e f d′ e′ f′ : ExtData} (rule : ExtData → ExtData → Ex
 figures₃ rule p q r = cc
 
 pub andOr-good : {c : Context} (lw rw : Float) (x y z : Candidate) → Good c x → Good c y → Good c z → IfMade (Good c) (andOr lw rw x y z)
-unfolding typeOf figuresOf
+unfolding typeOf figuresOf WellFormed
 andOr-good lw rw x y z g h i =
     made-as _ _ _ _ (bind-ok₃ type.andOr (g .typed) (h .typed) (i .typed)) (figures₃ ext.andOr (g .figured) (h .figured) (i .figured))
+    (g .formed, h .formed, i .formed)
 
 -- ---- thresholds
 
@@ -285,14 +291,25 @@ figures-of (g and gs) = both (g .figured) (figures-of gs)
     both : {e d : ExtData} {es ds : List ExtData} → e ≡ d → es ≡ ds → e ∷ es ≡ d ∷ ds
     both p q = cc
 
+formed-of : {c : Context} {xs : List Candidate} → All (Good c) xs → AllWellFormed (fragments xs)
+unfolding WellFormed fragments
+formed-of nobody = tt
+formed-of (g and gs) = (g .formed, formed-of gs)
+
+as-many : (xs : List Candidate) → length (toList (fragments xs)) ≡ length xs
+unfolding toList fragments
+as-many [] = refl
+as-many (x ∷ xs) = ap suc (as-many xs)
+
 if-valid : {P : Candidate → Type 0} {m : Made} (b : Bool) → IfMade P m → IfMade P (ifValid b m)
 if-valid true h = h
 if-valid false h = passedIs
 
-pub thresh-good : {c : Context} (k : ℕ) (xs : List Candidate) → All (Good c) xs → IfMade (Good c) (threshOf c k xs)
-unfolding threshOf typeOf figuresOf
-thresh-good {c} k xs gs =
+pub thresh-good : {c : Context} (k : ℕ) (xs : List Candidate) → IsThreshold k (length xs) → All (Good c) xs → IfMade (Good c) (threshOf c k xs)
+unfolding threshOf typeOf figuresOf WellFormed
+thresh-good {c} k xs w gs =
     if-valid (fromAst c 0 (threshold k (map (λ x. x .ext) xs)))
     (made-as (type.threshold k (map (λ x. x .ty) xs)) (Thresh k (fragments xs)) (threshold k (map (λ x. x .ext) xs))
     (cost.threshold k (length xs) (map (λ x. x .cost) xs))
-    (ap (λ r. allTyped r λ ts. type.threshold k ts) (types-of gs)) (ap (threshold k) (figures-of gs)))
+    (ap (λ r. allTyped r λ ts. type.threshold k ts) (types-of gs)) (ap (threshold k) (figures-of gs))
+    (subst (IsThreshold k) (sym (as-many xs)) w, formed-of gs))

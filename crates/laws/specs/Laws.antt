@@ -1,6 +1,6 @@
--- What the laws of compile speak of: well-typed candidates with the figures of their trees, sorted tables, and how the state grows. The rules of
--- figures are asked in the order of document 01, "Records".
-use mathlib.Core.Bool.{true}
+-- What the laws of compile speak of: well-typed candidates with the figures of their trees, sorted tables, how the state grows, and the tree check
+-- of what is written. The rules of figures are asked in the order of document 01, "Records".
+use mathlib.Core.Bool.{Bool, true}
 use mathlib.Core.List.{List, [], _∷_}
 use mathlib.Core.Option.{Option, none, some}
 use mathlib.Core.Path.{_≡_}
@@ -19,12 +19,15 @@ use Rattle.trees.specs.Fragment.{Fragment, Fragments, end, _▹_, False, True, 
 use Rattle.trees.specs.Fragment.{Alt, Swap, Check, DupIf, Verify, NonZero, ZeroNotEqual}
 use Rattle.trees.specs.Fragment.{AndB, AndV, OrB, OrD, OrC, OrI, AndOr, Thresh, Multi, MultiA}
 use Rattle.trees.specs.Typing.{typeOf}
+use Rattle.trees.specs.Reading as answer
+use Rattle.trees.specs.TreeCheck.{Typed, checkOf}
 use Rattle.compilation.specs.Candidates.{Candidate, kindOf, lockExt, hashExt, Made, passedOver, missing, made}
 use Rattle.compilation.specs.Tables.{Probs, costAt, Table, keyBefore}
 use Rattle.compilation.specs.Refusals.{State, Res, done, refused, M, maxAccepted, maxEntries, maxTables, NodesFull, TopLevelNonSafe}
 use Rattle.compilation.specs.Insertion.{worthwhile}
 use Rattle.writing.specs.Writing.{size, bytesOfTree}
-use Rattle.compilation.specs.Compile.{maxRecords}
+use Rattle.writing.specs.WellFormed.{AllBelow, WellFormed}
+use Rattle.compilation.specs.Compile.{maxRecords, compiled, compile}
 
 -- ---- candidates
 
@@ -59,10 +62,12 @@ unfoldable mutual
   figuresOfAll c end = []
   figuresOfAll c (x ▹ xs) = figuresOf c x ∷ figuresOfAll c xs
 
--- a candidate whose tree has its type and its figures; of the cost nothing is said, since it depends on the weights on the way to it
+-- a candidate whose tree has its type and its figures, and can be written; of the cost nothing is said, since it depends on the weights on the
+-- way to it
 pub record Good (c : Context) (x : Candidate) : Type 0 where
   pub typed : typeOf c (x .tree) ≡ Ok (x .ty)
   pub figured : x .ext ≡ figuresOf c (x .tree)
+  pub formed : WellFormed (x .tree)
 
 -- ---- of all in a list, of the one in an option, of what was made
 
@@ -143,9 +148,24 @@ pub record Sound (c : Context) (room : ℕ) (bytes : List ℕ) (nodes : ℕ) : T
   pub written : bytes ≡ bytesOfTree tree
   pub within : size tree ≤ maxRecords
   pub fits : length bytes ≤ room
+  pub formed : WellFormed tree
   pub typed : typeOf c tree ≡ Ok ty
   pub base : ty .corr .base ≡ B
   pub safe : ty .mall .safe ≡ true
   pub nonMalleable : ty .mall .«non_malleable» ≡ true
   pub valid : checkLocalValidity c (kindOf tree) (figuresOf c tree) ≡ true
   pub counted : nodes ≤ maxAccepted + 2
+
+-- the bytes pass the tree check, which finds a tree of base B that is safe and not malleable
+pub record Passes (context : ℕ) (bytes : List ℕ) : Type 0 where
+  pub found : Typed
+  pub passed : checkOf context bytes maxRecords ≡ answer.done found
+  pub base : found .type .corr .base ≡ B
+  pub safe : found .type .mall .safe ≡ true
+  pub nonMalleable : found .type .mall .«non_malleable» ≡ true
+
+-- whatever compile writes for the bytes of a policy passes the tree check in the same context
+abbrev pub CompilePasses : Type 0
+CompilePasses =
+    (context : ℕ) (workFits : Bool) (policy : List ℕ) (room : ℕ) (bytes : List ℕ) (cost nodes : ℕ) → AllBelow 256 policy →
+    compile context workFits policy room ≡ compiled bytes cost nodes → Passes context bytes

@@ -1,2 +1,3 @@
 -- What the laws of compile speak of.
+pub mod FormedPolicy
 pub mod Laws
