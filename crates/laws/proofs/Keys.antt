@@ -9,7 +9,7 @@ use Rattle.types.specs.TypeOrder.{boolRank, pack}
 use Rattle.compilation.specs.Candidates.{Candidate}
 use Rattle.compilation.specs.Tables.{freeVerify, sameBool, keySub, keyBefore}
 use Rattle.types.proofs.PackLaws.{pack-injective}
-use Rattle.types.proofs.SubtypeLaws.{sub-refl}
+use Rattle.sanity.proofs.SubtypeLaws.{sub-refl}
 
 -- ---- keys as numbers
 

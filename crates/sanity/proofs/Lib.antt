@@ -1,3 +1,4 @@
 pub mod Kids
 pub mod Kept
 pub mod KeptThreshold
+pub mod SubtypeLaws

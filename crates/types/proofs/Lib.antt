@@ -2,4 +2,3 @@ pub mod Inputs
 pub mod Threshold
 pub mod Finite
 pub mod PackLaws
-pub mod SubtypeLaws

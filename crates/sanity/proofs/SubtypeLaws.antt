@@ -4,12 +4,17 @@ use mathlib.Core.Bool.{Bool, true, false, _&&_}
 use Prim.Native.Nat.{ℕ}
 use lib.Dec.{eqb}
 use borrow.Author.Tests.{eqb-true}
-use Rattle.types.specs.Names.{Base, Input, Dissat, Correctness, Malleability, «Type»}
+use Rattle.types.specs.declared.correctness.Base.{Base}
+use Rattle.types.specs.declared.correctness.Input.{Input}
+use Rattle.types.specs.declared.correctness.Correctness.{Correctness}
+use Rattle.types.specs.declared.malleability.Dissat.{Dissat}
+use Rattle.types.specs.declared.malleability.Malleability.{Malleability}
+use Rattle.types.specs.declared.«Type».{«Type»}
 use Rattle.types.specs.Letters.{baseEq, implies}
 use Rattle.types.specs.Subtype.{inputSub, dissatSub, corrSub, mallSub, typeSub}
 use Rattle.types.specs.TypeOrder.{baseRank, inputRank, dissatRank, boolRank, baseOf, inputOf, dissatOf, boolOf}
 use Rattle.types.proofs.Finite.{and-l, and-r, and-i, modus, Finite, bools, bases, inputs, dissats}
 use Rattle.types.proofs.PackLaws.{base-of, input-of, dissat-of, bool-of}
 
 -- the three laws of a relation, computed over all values
 
