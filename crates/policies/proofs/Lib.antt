@@ -3,9 +3,11 @@ pub mod Ranges
 pub mod Forms
 pub mod Views
 pub mod Depths
+pub mod Sizes
 pub mod Rows
 pub mod Slots
 pub mod Fits
 pub mod Whole
 pub mod Records
 pub mod Roots
+pub mod Heaviest

@@ -27,6 +27,11 @@ maxRecords = 64
 abbrev pub maxDepth : ℕ
 maxDepth = 16
 
+-- No policy that is read weighs more, by `weight-bounded` of proofs/Heaviest.antt: each of its records weighs 1, and each but the root 2
+-- more where it is a child of a Thresh.
+abbrev pub maxWeight : ℕ
+maxWeight = 190
+
 -- a result, or the number of a refusal
 pub data Answer (A : Type 0) : Type 0 where
   refused : ℕ → Answer A

@@ -1,21 +1,22 @@
 // Policies: a policy's records are read into an array of numbers that the search borrows, and what the search asks of a policy is
-// read from that array: the head and the children of what a number stands for, what a Thresh folds to, and the depth.
+// read from that array: the head and the children of what a number stands for, what a Thresh folds to, the depth and the weighted size.
 //
 // Its contracts cite `specs/Reading.antt` (when bytes are a policy, and which refusal they get) and `specs/Array.antt` (the policies that
 // the array's numbers stand for), and say them as answers by `specs/Heads.antt` and `specs/Answers.antt`. `specs/Policy.antt` has the
-// policies themselves. The laws that crates above cite stand in `proofs/Weights.antt`, `proofs/Forms.antt` and `proofs/Views.antt`.
+// policies themselves. The laws that crates above cite stand in `proofs/Weights.antt`, `proofs/Forms.antt`, `proofs/Views.antt` and
+// `proofs/Heaviest.antt`.
 ghost use mathlib.Core.Path.{_≡_};
 ghost use mathlib.Core.List.{List};
 ghost use Prim.Native.Nat.{_<_, _≤_, max};
 ghost use mathlib.Core.Bool.{_&&_, _||_};
 ghost use lib.Dec.{eqb};
 ghost use lib.ListN.{length, drop};
-ghost use Rattle.policies.specs.Policy.{Policy, depth};
+ghost use Rattle.policies.specs.Policy.{Policy, depth, weight};
 ghost use Rattle.policies.specs.Forms.{made, orKind};
 ghost use Rattle.policies.specs.Array.{maxChildren, rowWords, arrayWords, arity, wordAt, policyAt, slotsAt, Rows, Good};
 ghost use Rattle.policies.specs.Array.{rowChild, childNumber, foldNumber, putHead, putChildren};
-ghost use Rattle.policies.specs.Answers.{Took, putRow, Stepped, AllRead, Rooted, Read, PolicyRead};
-ghost use Rattle.policies.specs.Reading.{maxRecords, readWhole, readRecord, readPolicy, finish};
+ghost use Rattle.policies.specs.Answers.{Took, putRow, Stepped, AllRead, Rooted, Read, PolicyRead, weightRead};
+ghost use Rattle.policies.specs.Reading.{maxRecords, maxWeight, readWhole, readRecord, readPolicy, finish};
 ghost use Rattle.policies.specs.Heads.{headOf, leafHead, pairHead};
 use records::Parts;
 use records::RecordLength;
@@ -36,10 +37,12 @@ const FIRST_CHILD: usize = 6;
 
 const TAKEN: usize = 22;
 
-// The kinds And and Or.
+// The kinds And, Or and Thresh.
 const AND: u64 = 10;
 
 const OR: u16 = 11;
+
+const THRESH: u64 = 12;
 
 // What a policy is besides its children: 0 where it has no such part. `count` is the number of its children.
 pub struct Head {
@@ -194,6 +197,27 @@ pub fn depth(pol: &[u64], i: usize) -> usize
         j += 1;
     }
     deepest + 1
+}
+
+// The weighted size of record i: 1, what its children weigh, and for a Thresh 2 more for each child.
+pub fn weight(pol: &[u64], i: usize) -> u64
+    requires { ⌜ Good (now pol) × ((i < maxRecords) × (weight (policyAt (now pol) i) ≤ maxWeight)) ⌝ }
+    ensures { λ r. ⌜ r ≡ weight (policyAt (now (pol .entry)) i) ⌝ }
+{
+    let head = head_of(pol, i);
+    let kind = head.kind;
+    let n = head.count;
+    let mut sum = 1;
+    let mut j = 0;
+    while j < n {
+        let c = child(pol, i, j);
+        sum += weight(pol, c);
+        j += 1;
+    }
+    if kind == THRESH {
+        return sum + 2 * n as u64;
+    }
+    sum
 }
 
 // What reading one record leaves: its length, or a refusal.
@@ -411,5 +435,18 @@ pub fn read_policy(bytes: &[u8], pol: &mut [u64]) -> ReadPolicy
         RecordsRead::ZeroWeight => ReadPolicy::ZeroWeight,
         RecordsRead::PolicyTooLarge => ReadPolicy::PolicyTooLarge,
         RecordsRead::All(count) => finish(pol, count),
+    }
+}
+
+// Reads a policy into the array that is lent, and answers its weighted size, or 0 where there is none.
+pub fn read_weight(bytes: &[u8], pol: &mut [u64]) -> u64
+    ensures { λ w. ⌜ (length (now (pol .entry)) ≡ arrayWords → w ≡ weightRead (readPolicy (now (bytes .entry)))) ⌝ }
+{
+    match read_policy(bytes, pol) {
+        ReadPolicy::Root(root) => weight(pol, root),
+        ReadPolicy::BadPolicy => 0,
+        ReadPolicy::ZeroWeight => 0,
+        ReadPolicy::PolicyTooLarge => 0,
+        ReadPolicy::BadArray => 0,
     }
 }
