@@ -1,6 +1,6 @@
 -- A test that holds of each variant holds of every value: how a law over a declared enum is computed. Assumes nothing.
 use mathlib.Core.Path.{_≡_, refl, ap, _∙_}
-use mathlib.Core.Bool.{Bool, true, false, cond, _&&_}
+use mathlib.Core.Bool.{Bool, true, false, cond, not, _&&_, _||_}
 use Rattle.types.specs.Names.{Base, B, K, «V», W, Input, Zero, One, Any, OneNonZero, AnyNonZero, Dissat, None, Unique, Unknown}
 use Rattle.types.specs.Letters.{implies}
 
@@ -18,6 +18,10 @@ and-i a b h k = rw (h, k)
 pub modus : (a b : Bool) → implies a b ≡ true → a ≡ true → b ≡ true
 modus true b h k = h
 modus false b h k = ap (λ (x : Bool). cond x true b) k
+
+pub or-implies : (a b : Bool) → not a || b ≡ implies a b
+or-implies true b = refl
+or-implies false b = refl
 
 -- the values of A can be gone through
 pub record Finite (A : Type 0) : Type 1 where

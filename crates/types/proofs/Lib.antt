@@ -1,3 +1,4 @@
+pub mod Arms
 pub mod Inputs
 pub mod Threshold
 pub mod Finite

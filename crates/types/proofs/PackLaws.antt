@@ -5,28 +5,30 @@ use Prim.Native.Nat.{ℕ, suc, _+_, _*_, _/_, _%_, _<_, _≤_}
 use native.Mathlib.Nat.{mul-le-mul-right, suc-mul, add-comm, zero-add, add-mul-mod-self-right, mod-eq-of-lt, add-mul-div-right, div-eq-of-lt}
 use native.Mathlib.Omega.{arith}
 use lib.Dec.{ltb, eqb}
+use mir.Val.{boolByte}
 use borrow.Author.Tests.{lt-ltb, le-ltb, ltb-true, ltb-false}
 use Rattle.types.specs.Names.{Base, B, K, «V», W, Input, Zero, One, Any, OneNonZero, AnyNonZero, Dissat, None, Unique, Unknown}
 use Rattle.types.specs.Names.{Correctness, Malleability, «Type», Ordering, Less, Equal, Greater, Unpacked, Is, NotAType}
+use Rattle.types.specs.Letters.{baseEq}
 use Rattle.types.specs.TypeOrder.{baseRank, inputRank, dissatRank, boolRank, cmpRank, andThen, cmpCorr, cmpMall, cmpType}
 use Rattle.types.specs.TypeOrder.{packCorr, pack, baseOf, inputOf, dissatOf, boolOf, unpackCorr, unpackMall, unpack}
 
 -- each rank is a digit, and stands for its variant
 
-base-lt : (b : Base) → baseRank b < 4
+pub base-lt : (b : Base) → baseRank b < 4
 base-lt B = omega arith
 base-lt K = omega arith
 base-lt «V» = omega arith
 base-lt W = omega arith
 
-input-lt : (i : Input) → inputRank i < 5
+pub input-lt : (i : Input) → inputRank i < 5
 input-lt Zero = omega arith
 input-lt One = omega arith
 input-lt Any = omega arith
 input-lt OneNonZero = omega arith
 input-lt AnyNonZero = omega arith
 
-dissat-lt : (x : Dissat) → dissatRank x < 3
+pub dissat-lt : (x : Dissat) → dissatRank x < 3
 dissat-lt None = omega arith
 dissat-lt Unique = omega arith
 dissat-lt Unknown = omega arith
@@ -34,6 +36,37 @@ dissat-lt Unknown = omega arith
 bool-lt : (b : Bool) → boolRank b < 2
 bool-lt false = omega arith
 bool-lt true = omega arith
+
+-- the number that the code casts a bool to
+pub bool-byte : (b : Bool) → boolByte b ≡ boolRank b
+bool-byte false = refl
+bool-byte true = refl
+
+-- the digits of a type, as the code comes by them: the ranks b, i and x, and bools cast to numbers
+pub record Digits (t : «Type») (b i x : ℕ) : Type 0 where
+  pub below-b : b < 4
+  pub below-i : i < 5
+  pub below-d : boolByte (t .corr .dissatisfiable) < 2
+  pub below-u : boolByte (t .corr .unit) < 2
+  pub below-x : x < 3
+  pub below-s : boolByte (t .mall .safe) < 2
+  pub below-m : boolByte (t .mall .«non_malleable») < 2
+
+byte-lt : (b : Bool) → boolByte b < 2
+byte-lt false = omega arith
+byte-lt true = omega arith
+
+pub digits : (t : «Type») (b i x : ℕ) → b ≡ baseRank (t .corr .base) → i ≡ inputRank (t .corr .input) → x ≡ dissatRank (t .mall .dissat) → Digits t b i x
+digits t b i x hb hi hx =
+    record {
+      below-b = omega (arith, hb, base-lt (t .corr .base));
+      below-i = omega (arith, hi, input-lt (t .corr .input));
+      below-d = byte-lt (t .corr .dissatisfiable);
+      below-u = byte-lt (t .corr .unit);
+      below-x = omega (arith, hx, dissat-lt (t .mall .dissat));
+      below-s = byte-lt (t .mall .safe);
+      below-m = byte-lt (t .mall .«non_malleable»);
+    }
 
 pub base-of : (b : Base) → baseOf (baseRank b) ≡ b
 base-of B = refl
@@ -56,6 +89,25 @@ dissat-of Unknown = refl
 pub bool-of : (b : Bool) → boolOf (boolRank b) ≡ b
 bool-of false = refl
 bool-of true = refl
+
+-- two bases are one where their ranks are
+pub base-eq : (a b : Base) → eqb (baseRank a) (baseRank b) ≡ baseEq a b
+base-eq B B = refl
+base-eq B K = refl
+base-eq B «V» = refl
+base-eq B W = refl
+base-eq K B = refl
+base-eq K K = refl
+base-eq K «V» = refl
+base-eq K W = refl
+base-eq «V» B = refl
+base-eq «V» K = refl
+base-eq «V» «V» = refl
+base-eq «V» W = refl
+base-eq W B = refl
+base-eq W K = refl
+base-eq W «V» = refl
+base-eq W W = refl
 
 -- a number of two digits orders as its first digit does and then its second
 

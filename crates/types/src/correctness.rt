@@ -1,19 +1,15 @@
 // The correctness properties of a fragment: its base, z o n, d and u. The rules are those of specs/CorrectnessRules.antt, the subtype
-// question that of specs/Subtype.antt.
+// question that of specs/Subtype.antt. Bools are joined by & and |: both sides are at hand, and there is nothing to skip.
 ghost use mathlib.Core.Path.{_≡_};
-ghost use mathlib.Core.Bool.{_&&_};
 ghost use Rattle.types.specs.Letters.{isB, isK, isV, isW, baseEq, isZero, isOne, isNonZero};
 ghost use Rattle.types.specs.Subtype.{inputSub, corrSub};
-ghost use Rattle.types.specs.CorrectnessRules.{okIf, TRUE, FALSE, pkK, pkH, multi, multiA, hash, time};
+ghost use Rattle.types.specs.CorrectnessRules.{correctness, okIf, TRUE, FALSE, pkK, pkH, multi, multiA, hash, time};
 ghost use Rattle.types.specs.CorrectnessRules.{castAlt, castSwap, castCheck, castDupif, castVerify, castNonzero};
 ghost use Rattle.types.specs.CorrectnessRules.{castZeronotequal, castTrue, castOrIFalse};
 ghost use Rattle.types.specs.CorrectnessRules.{isBdu, sameBKV, oneIfZero, andInput, orBInput, orDInput, orIInput, branchInput, andOrInput};
+ghost use Rattle.types.specs.CorrectnessRules.{numArgs, thresholdInput};
 ghost use Rattle.types.specs.CorrectnessRules.{andB, andV, orB, orD, orC, orI, andOr};
 ghost use Rattle.types.specs.ThresholdSteps.{corrFirst, corrNext, corrResult};
-use crate::bools::both;
-use crate::bools::either;
-use crate::bools::implies;
-use crate::bools::not;
 
 // Where a fragment can stand.
 pub enum Base {
@@ -30,9 +26,7 @@ impl Base {
     {
         match self {
             Base::B => true,
-            Base::K => false,
-            Base::V => false,
-            Base::W => false,
+            _ => false,
         }
     }
 
@@ -41,10 +35,8 @@ impl Base {
         ensures { λ r. ⌜ r ≡ isK self ⌝ }
     {
         match self {
-            Base::B => false,
             Base::K => true,
-            Base::V => false,
-            Base::W => false,
+            _ => false,
         }
     }
 
@@ -53,10 +45,8 @@ impl Base {
         ensures { λ r. ⌜ r ≡ isV self ⌝ }
     {
         match self {
-            Base::B => false,
-            Base::K => false,
             Base::V => true,
-            Base::W => false,
+            _ => false,
         }
     }
 
@@ -65,10 +55,8 @@ impl Base {
         ensures { λ r. ⌜ r ≡ isW self ⌝ }
     {
         match self {
-            Base::B => false,
-            Base::K => false,
-            Base::V => false,
             Base::W => true,
+            _ => false,
         }
     }
 
@@ -76,39 +64,14 @@ impl Base {
     pub fn same(self, other: Base) -> bool
         ensures { λ r. ⌜ r ≡ baseEq self other ⌝ }
     {
-        match self {
-            Base::B => match other {
-                Base::B => true,
-                Base::K => false,
-                Base::V => false,
-                Base::W => false,
-            },
-            Base::K => match other {
-                Base::B => false,
-                Base::K => true,
-                Base::V => false,
-                Base::W => false,
-            },
-            Base::V => match other {
-                Base::B => false,
-                Base::K => false,
-                Base::V => true,
-                Base::W => false,
-            },
-            Base::W => match other {
-                Base::B => false,
-                Base::K => false,
-                Base::V => false,
-                Base::W => true,
-            },
-        }
+        self.rank() == other.rank()
     }
 
     // Whether the two bases are one and no W.
     pub fn same_bkv(self, other: Base) -> bool
         ensures { λ r. ⌜ r ≡ sameBKV self other ⌝ }
     {
-        both(self.same(other), not(self.is_w()))
+        self.same(other) & !self.is_w()
     }
 }
 
@@ -128,10 +91,7 @@ impl Input {
     {
         match self {
             Input::Zero => true,
-            Input::One => false,
-            Input::Any => false,
-            Input::OneNonZero => false,
-            Input::AnyNonZero => false,
+            _ => false,
         }
     }
 
@@ -140,11 +100,8 @@ impl Input {
         ensures { λ r. ⌜ r ≡ isOne self ⌝ }
     {
         match self {
-            Input::Zero => false,
-            Input::One => true,
-            Input::Any => false,
-            Input::OneNonZero => true,
-            Input::AnyNonZero => false,
+            Input::One | Input::OneNonZero => true,
+            _ => false,
         }
     }
 
@@ -153,11 +110,8 @@ impl Input {
         ensures { λ r. ⌜ r ≡ isNonZero self ⌝ }
     {
         match self {
-            Input::Zero => false,
-            Input::One => false,
-            Input::Any => false,
-            Input::OneNonZero => true,
-            Input::AnyNonZero => true,
+            Input::OneNonZero | Input::AnyNonZero => true,
+            _ => false,
         }
     }
 
@@ -165,42 +119,12 @@ impl Input {
     pub fn is_subtype(self, other: Input) -> bool
         ensures { λ r. ⌜ r ≡ inputSub self other ⌝ }
     {
-        match self {
-            Input::Zero => match other {
-                Input::Zero => true,
-                Input::One => false,
-                Input::Any => true,
-                Input::OneNonZero => false,
-                Input::AnyNonZero => false,
-            },
-            Input::One => match other {
-                Input::Zero => false,
-                Input::One => true,
-                Input::Any => true,
-                Input::OneNonZero => false,
-                Input::AnyNonZero => false,
-            },
-            Input::Any => match other {
-                Input::Zero => false,
-                Input::One => false,
-                Input::Any => true,
-                Input::OneNonZero => false,
-                Input::AnyNonZero => false,
-            },
-            Input::OneNonZero => match other {
-                Input::Zero => false,
-                Input::One => true,
-                Input::Any => true,
-                Input::OneNonZero => true,
-                Input::AnyNonZero => true,
-            },
-            Input::AnyNonZero => match other {
-                Input::Zero => false,
-                Input::One => false,
-                Input::Any => true,
-                Input::OneNonZero => false,
-                Input::AnyNonZero => true,
-            },
+        match other {
+            Input::Zero => self.is_zero(),
+            Input::One => self.is_one(),
+            Input::Any => true,
+            Input::OneNonZero => self.is_one() & self.is_nonzero(),
+            Input::AnyNonZero => self.is_nonzero(),
         }
     }
 
@@ -210,10 +134,29 @@ impl Input {
     {
         match self {
             Input::Zero => Input::One,
-            Input::One => Input::Any,
-            Input::Any => Input::Any,
-            Input::OneNonZero => Input::Any,
-            Input::AnyNonZero => Input::Any,
+            _ => Input::Any,
+        }
+    }
+
+    // How many elements are taken, where 2 stands for any number above.
+    fn num_args(self) -> u8
+        ensures { λ r. ⌜ r ≡ numArgs self ⌝ }
+    {
+        match self {
+            Input::Zero => 0,
+            Input::One | Input::OneNonZero => 1,
+            _ => 2,
+        }
+    }
+
+    // The input that takes n elements, whatever the top element is.
+    fn of_args(n: u8) -> Input
+        ensures { λ r. ⌜ r ≡ thresholdInput n ⌝ }
+    {
+        match n {
+            0 => Input::Zero,
+            1 => Input::One,
+            _ => Input::Any,
         }
     }
 }
@@ -238,12 +181,17 @@ pub struct CorrectnessSoFar {
     pub input: Input,
 }
 
-// c, if the rule's demands are met.
-fn ok_if(met: bool, c: Correctness) -> CorrectnessResult
-    ensures { λ r. ⌜ r ≡ okIf met c ⌝ }
+// The correctness of these properties, if the rule's demands are met.
+fn ok_if(met: bool, base: Base, input: Input, dissatisfiable: bool, unit: bool) -> CorrectnessResult
+    ensures { λ r. ⌜ r ≡ okIf met (correctness base input dissatisfiable unit) ⌝ }
 {
     if met {
-        CorrectnessResult::Ok(c)
+        CorrectnessResult::Ok(Correctness {
+            base,
+            input,
+            dissatisfiable,
+            unit,
+        })
     } else {
         CorrectnessResult::IllTyped
     }
@@ -255,20 +203,11 @@ fn and_input(left: Input, right: Input) -> Input
 {
     match left {
         Input::Zero => right,
-        Input::One => match right {
-            Input::Zero => Input::One,
-            Input::One => Input::Any,
-            Input::Any => Input::Any,
-            Input::OneNonZero => Input::Any,
-            Input::AnyNonZero => Input::Any,
-        },
+        Input::One => right.one_if_zero(),
         Input::Any => Input::Any,
         Input::OneNonZero => match right {
             Input::Zero => Input::OneNonZero,
-            Input::One => Input::AnyNonZero,
-            Input::Any => Input::AnyNonZero,
-            Input::OneNonZero => Input::AnyNonZero,
-            Input::AnyNonZero => Input::AnyNonZero,
+            _ => Input::AnyNonZero,
         },
         Input::AnyNonZero => Input::AnyNonZero,
     }
@@ -278,61 +217,17 @@ fn and_input(left: Input, right: Input) -> Input
 fn or_b_input(left: Input, right: Input) -> Input
     ensures { λ r. ⌜ r ≡ orBInput left right ⌝ }
 {
-    match left {
-        Input::Zero => match right {
-            Input::Zero => Input::Zero,
-            Input::One => Input::One,
-            Input::Any => Input::Any,
-            Input::OneNonZero => Input::One,
-            Input::AnyNonZero => Input::Any,
-        },
-        Input::One => match right {
-            Input::Zero => Input::One,
-            Input::One => Input::Any,
-            Input::Any => Input::Any,
-            Input::OneNonZero => Input::Any,
-            Input::AnyNonZero => Input::Any,
-        },
-        Input::Any => Input::Any,
-        Input::OneNonZero => match right {
-            Input::Zero => Input::One,
-            Input::One => Input::Any,
-            Input::Any => Input::Any,
-            Input::OneNonZero => Input::Any,
-            Input::AnyNonZero => Input::Any,
-        },
-        Input::AnyNonZero => Input::Any,
-    }
+    Input::of_args(left.num_args() + right.num_args())
 }
 
 // What a fragment takes, and where it is dissatisfied another.
 fn or_d_input(left: Input, right: Input) -> Input
     ensures { λ r. ⌜ r ≡ orDInput left right ⌝ }
 {
-    match left {
-        Input::Zero => match right {
-            Input::Zero => Input::Zero,
-            Input::One => Input::Any,
-            Input::Any => Input::Any,
-            Input::OneNonZero => Input::Any,
-            Input::AnyNonZero => Input::Any,
-        },
-        Input::One => match right {
-            Input::Zero => Input::One,
-            Input::One => Input::Any,
-            Input::Any => Input::Any,
-            Input::OneNonZero => Input::Any,
-            Input::AnyNonZero => Input::Any,
-        },
-        Input::Any => Input::Any,
-        Input::OneNonZero => match right {
-            Input::Zero => Input::One,
-            Input::One => Input::Any,
-            Input::Any => Input::Any,
-            Input::OneNonZero => Input::Any,
-            Input::AnyNonZero => Input::Any,
-        },
-        Input::AnyNonZero => Input::Any,
+    if right.is_zero() {
+        or_b_input(left, right)
+    } else {
+        Input::Any
     }
 }
 
@@ -340,18 +235,10 @@ fn or_d_input(left: Input, right: Input) -> Input
 fn or_i_input(left: Input, right: Input) -> Input
     ensures { λ r. ⌜ r ≡ orIInput left right ⌝ }
 {
-    match left {
-        Input::Zero => match right {
-            Input::Zero => Input::One,
-            Input::One => Input::Any,
-            Input::Any => Input::Any,
-            Input::OneNonZero => Input::Any,
-            Input::AnyNonZero => Input::Any,
-        },
-        Input::One => Input::Any,
-        Input::Any => Input::Any,
-        Input::OneNonZero => Input::Any,
-        Input::AnyNonZero => Input::Any,
+    if left.is_zero() & right.is_zero() {
+        Input::One
+    } else {
+        Input::Any
     }
 }
 
@@ -359,30 +246,11 @@ fn or_i_input(left: Input, right: Input) -> Input
 fn branch_input(left: Input, right: Input) -> Input
     ensures { λ r. ⌜ r ≡ branchInput left right ⌝ }
 {
-    match left {
-        Input::Zero => match right {
-            Input::Zero => Input::Zero,
-            Input::One => Input::Any,
-            Input::Any => Input::Any,
-            Input::OneNonZero => Input::Any,
-            Input::AnyNonZero => Input::Any,
-        },
-        Input::One => match right {
-            Input::Zero => Input::Any,
-            Input::One => Input::One,
-            Input::Any => Input::Any,
-            Input::OneNonZero => Input::One,
-            Input::AnyNonZero => Input::Any,
-        },
-        Input::Any => Input::Any,
-        Input::OneNonZero => match right {
-            Input::Zero => Input::Any,
-            Input::One => Input::One,
-            Input::Any => Input::Any,
-            Input::OneNonZero => Input::One,
-            Input::AnyNonZero => Input::Any,
-        },
-        Input::AnyNonZero => Input::Any,
+    let n = left.num_args();
+    if n == right.num_args() {
+        Input::of_args(n)
+    } else {
+        Input::Any
     }
 }
 
@@ -392,10 +260,8 @@ fn and_or_input(a: Input, b: Input, c: Input) -> Input
 {
     match a {
         Input::Zero => branch_input(b, c),
-        Input::One => or_i_input(b, c),
-        Input::Any => Input::Any,
-        Input::OneNonZero => or_i_input(b, c),
-        Input::AnyNonZero => Input::Any,
+        Input::One | Input::OneNonZero => or_i_input(b, c),
+        _ => Input::Any,
     }
 }
 
@@ -432,10 +298,10 @@ impl Correctness {
         let other_base = other.base;
         let input = self.input;
         let other_input = other.input;
-        let stands = both(base.same(other_base), input.is_subtype(other_input));
-        let d = implies(other.dissatisfiable, self.dissatisfiable);
-        let u = implies(other.unit, self.unit);
-        both(stands, both(d, u))
+        let stands = base.same(other_base) & input.is_subtype(other_input);
+        let d = !other.dissatisfiable | self.dissatisfiable;
+        let u = !other.unit | self.unit;
+        stands & (d & u)
     }
 
     // The correctness of pk_k.
@@ -515,14 +381,13 @@ impl Correctness {
         ensures { λ r. ⌜ r ≡ castAlt self ⌝ }
     {
         let base = self.base;
-        let met = base.is_b();
-        let c = Correctness {
-            base: Base::W,
-            input: Input::Any,
-            dissatisfiable: self.dissatisfiable,
-            unit: self.unit,
-        };
-        ok_if(met, c)
+        ok_if(
+            base.is_b(),
+            Base::W,
+            Input::Any,
+            self.dissatisfiable,
+            self.unit,
+        )
     }
 
     // The correctness of s:X.
@@ -531,14 +396,13 @@ impl Correctness {
     {
         let base = self.base;
         let input = self.input;
-        let met = both(base.is_b(), input.is_one());
-        let c = Correctness {
-            base: Base::W,
-            input: Input::Any,
-            dissatisfiable: self.dissatisfiable,
-            unit: self.unit,
-        };
-        ok_if(met, c)
+        ok_if(
+            base.is_b() & input.is_one(),
+            Base::W,
+            Input::Any,
+            self.dissatisfiable,
+            self.unit,
+        )
     }
 
     // The correctness of c:X.
@@ -547,14 +411,7 @@ impl Correctness {
     {
         let base = self.base;
         let input = self.input;
-        let met = base.is_k();
-        let c = Correctness {
-            base: Base::B,
-            input: input,
-            dissatisfiable: self.dissatisfiable,
-            unit: true,
-        };
-        ok_if(met, c)
+        ok_if(base.is_k(), Base::B, input, self.dissatisfiable, true)
     }
 
     // The correctness of d:X.
@@ -563,14 +420,13 @@ impl Correctness {
     {
         let base = self.base;
         let input = self.input;
-        let met = both(base.is_v(), input.is_zero());
-        let c = Correctness {
-            base: Base::B,
-            input: Input::OneNonZero,
-            dissatisfiable: true,
-            unit: false,
-        };
-        ok_if(met, c)
+        ok_if(
+            base.is_v() & input.is_zero(),
+            Base::B,
+            Input::OneNonZero,
+            true,
+            false,
+        )
     }
 
     // The correctness of v:X.
@@ -579,14 +435,7 @@ impl Correctness {
     {
         let base = self.base;
         let input = self.input;
-        let met = base.is_b();
-        let c = Correctness {
-            base: Base::V,
-            input: input,
-            dissatisfiable: false,
-            unit: false,
-        };
-        ok_if(met, c)
+        ok_if(base.is_b(), Base::V, input, false, false)
     }
 
     // The correctness of j:X.
@@ -595,14 +444,13 @@ impl Correctness {
     {
         let base = self.base;
         let input = self.input;
-        let met = both(input.is_nonzero(), base.is_b());
-        let c = Correctness {
-            base: Base::B,
-            input: input,
-            dissatisfiable: true,
-            unit: self.unit,
-        };
-        ok_if(met, c)
+        ok_if(
+            input.is_nonzero() & base.is_b(),
+            Base::B,
+            input,
+            true,
+            self.unit,
+        )
     }
 
     // The correctness of n:X.
@@ -611,14 +459,7 @@ impl Correctness {
     {
         let base = self.base;
         let input = self.input;
-        let met = base.is_b();
-        let c = Correctness {
-            base: Base::B,
-            input: input,
-            dissatisfiable: self.dissatisfiable,
-            unit: true,
-        };
-        ok_if(met, c)
+        ok_if(base.is_b(), Base::B, input, self.dissatisfiable, true)
     }
 
     // The correctness of t:X.
@@ -627,14 +468,7 @@ impl Correctness {
     {
         let base = self.base;
         let input = self.input;
-        let met = base.is_v();
-        let c = Correctness {
-            base: Base::B,
-            input: input,
-            dissatisfiable: false,
-            unit: true,
-        };
-        ok_if(met, c)
+        ok_if(base.is_v(), Base::B, input, false, true)
     }
 
     // The correctness of l:X and of u:X.
@@ -644,14 +478,7 @@ impl Correctness {
         let base = self.base;
         let input = self.input;
         let taken = input.one_if_zero();
-        let met = base.is_b();
-        let c = Correctness {
-            base: Base::B,
-            input: taken,
-            dissatisfiable: true,
-            unit: self.unit,
-        };
-        ok_if(met, c)
+        ok_if(base.is_b(), Base::B, taken, true, self.unit)
     }
 
     // Whether this is a B with d and u.
@@ -659,7 +486,7 @@ impl Correctness {
         ensures { λ r. ⌜ r ≡ isBdu self ⌝ }
     {
         let base = self.base;
-        both(base.is_b(), both(self.dissatisfiable, self.unit))
+        base.is_b() & (self.dissatisfiable & self.unit)
     }
 
     // The correctness of and_b.
@@ -671,15 +498,14 @@ impl Correctness {
         let left_input = left.input;
         let right_input = right.input;
         let input = and_input(left_input, right_input);
-        let d = both(left.dissatisfiable, right.dissatisfiable);
-        let met = both(left_base.is_b(), right_base.is_w());
-        let c = Correctness {
-            base: Base::B,
-            input: input,
-            dissatisfiable: d,
-            unit: true,
-        };
-        ok_if(met, c)
+        let d = left.dissatisfiable & right.dissatisfiable;
+        ok_if(
+            left_base.is_b() & right_base.is_w(),
+            Base::B,
+            input,
+            d,
+            true,
+        )
     }
 
     // The correctness of and_v.
@@ -691,14 +517,13 @@ impl Correctness {
         let left_input = left.input;
         let right_input = right.input;
         let input = and_input(left_input, right_input);
-        let met = both(left_base.is_v(), not(right_base.is_w()));
-        let c = Correctness {
-            base: right_base,
-            input: input,
-            dissatisfiable: false,
-            unit: right.unit,
-        };
-        ok_if(met, c)
+        ok_if(
+            left_base.is_v() & !right_base.is_w(),
+            right_base,
+            input,
+            false,
+            right.unit,
+        )
     }
 
     // The correctness of or_b.
@@ -709,16 +534,15 @@ impl Correctness {
         let right_base = right.base;
         let left_input = left.input;
         let right_input = right.input;
-        let d = both(left.dissatisfiable, right.dissatisfiable);
+        let d = left.dissatisfiable & right.dissatisfiable;
         let input = or_b_input(left_input, right_input);
-        let met = both(d, both(left_base.is_b(), right_base.is_w()));
-        let c = Correctness {
-            base: Base::B,
-            input: input,
-            dissatisfiable: true,
-            unit: true,
-        };
-        ok_if(met, c)
+        ok_if(
+            d & (left_base.is_b() & right_base.is_w()),
+            Base::B,
+            input,
+            true,
+            true,
+        )
     }
 
     // The correctness of or_d.
@@ -729,14 +553,13 @@ impl Correctness {
         let left_input = left.input;
         let right_input = right.input;
         let input = or_d_input(left_input, right_input);
-        let met = both(left.is_bdu(), right_base.is_b());
-        let c = Correctness {
-            base: Base::B,
-            input: input,
-            dissatisfiable: right.dissatisfiable,
-            unit: right.unit,
-        };
-        ok_if(met, c)
+        ok_if(
+            left.is_bdu() & right_base.is_b(),
+            Base::B,
+            input,
+            right.dissatisfiable,
+            right.unit,
+        )
     }
 
     // The correctness of or_c.
@@ -747,14 +570,13 @@ impl Correctness {
         let left_input = left.input;
         let right_input = right.input;
         let input = or_d_input(left_input, right_input);
-        let met = both(left.is_bdu(), right_base.is_v());
-        let c = Correctness {
-            base: Base::V,
-            input: input,
-            dissatisfiable: false,
-            unit: false,
-        };
-        ok_if(met, c)
+        ok_if(
+            left.is_bdu() & right_base.is_v(),
+            Base::V,
+            input,
+            false,
+            false,
+        )
     }
 
     // The correctness of or_i.
@@ -766,16 +588,9 @@ impl Correctness {
         let left_input = left.input;
         let right_input = right.input;
         let input = or_i_input(left_input, right_input);
-        let d = either(left.dissatisfiable, right.dissatisfiable);
-        let u = both(left.unit, right.unit);
-        let met = left_base.same_bkv(right_base);
-        let c = Correctness {
-            base: left_base,
-            input: input,
-            dissatisfiable: d,
-            unit: u,
-        };
-        ok_if(met, c)
+        let d = left.dissatisfiable | right.dissatisfiable;
+        let u = left.unit & right.unit;
+        ok_if(left_base.same_bkv(right_base), left_base, input, d, u)
     }
 
     // The correctness of andor.
@@ -788,22 +603,14 @@ impl Correctness {
         let b_input = b.input;
         let c_input = c.input;
         let input = and_or_input(a_input, b_input, c_input);
-        let u = both(b.unit, c.unit);
-        let met = both(a.is_bdu(), b_base.same_bkv(c_base));
-        let whole = Correctness {
-            base: b_base,
-            input: input,
-            dissatisfiable: c.dissatisfiable,
-            unit: u,
-        };
-        ok_if(met, whole)
-    }
-
-    // Whether this has u and d, as each child of a threshold must.
-    fn is_ud(self) -> bool
-        ensures { λ r. ⌜ r ≡ self .unit && self .dissatisfiable ⌝ }
-    {
-        both(self.unit, self.dissatisfiable)
+        let u = b.unit & c.unit;
+        ok_if(
+            a.is_bdu() & b_base.same_bkv(c_base),
+            b_base,
+            input,
+            c.dissatisfiable,
+            u,
+        )
     }
 }
 
@@ -814,7 +621,7 @@ impl CorrectnessSoFar {
     {
         let base = sub.base;
         let input = sub.input;
-        let fits = both(base.is_b(), sub.is_ud());
+        let fits = base.is_b() & (sub.unit & sub.dissatisfiable);
         let taken = or_b_input(Input::Zero, input);
         CorrectnessSoFar { fits, input: taken }
     }
@@ -826,7 +633,7 @@ impl CorrectnessSoFar {
         let base = sub.base;
         let input = sub.input;
         let before = self.input;
-        let fits = both(self.fits, both(base.is_w(), sub.is_ud()));
+        let fits = self.fits & (base.is_w() & (sub.unit & sub.dissatisfiable));
         let taken = or_b_input(before, input);
         CorrectnessSoFar { fits, input: taken }
     }
@@ -836,13 +643,6 @@ impl CorrectnessSoFar {
         ensures { λ r. ⌜ r ≡ corrResult self ⌝ }
     {
         let input = self.input;
-        let met = self.fits;
-        let c = Correctness {
-            base: Base::B,
-            input: input,
-            dissatisfiable: true,
-            unit: true,
-        };
-        ok_if(met, c)
+        ok_if(self.fits, Base::B, input, true, true)
     }
 }

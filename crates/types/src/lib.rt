@@ -8,12 +8,10 @@ ghost use Rattle.types.specs.TypeRules.{castZeronotequal, castTrue, cast
 ghost use Rattle.types.specs.TypeRules.{andB, andV, orB, orD, orC, orI, andOr, thresholdOf};
 ghost use Rattle.types.specs.ThresholdSteps.{typeFirst, typeNext, typeResult};
 
-mod bools;
 pub mod correctness;
 pub mod malleability;
 pub mod order;
 
-use bools::both;
 pub use correctness::Base;
 pub use correctness::Correctness;
 pub use correctness::CorrectnessResult;
@@ -87,10 +85,7 @@ impl Type {
     pub fn is_subtype(self, other: Self) -> bool
         ensures { λ r. ⌜ r ≡ typeSub self other ⌝ }
     {
-        both(
-            self.corr.is_subtype(other.corr),
-            self.mall.is_subtype(other.mall),
-        )
+        self.corr.is_subtype(other.corr) & self.mall.is_subtype(other.mall)
     }
 
     // The type of pk_k.

@@ -1,19 +1,14 @@
 // The malleability properties of a fragment: f or e, s and m. The rules are those of specs/MalleabilityRules.antt, the subtype question that
-// of specs/Subtype.antt.
+// of specs/Subtype.antt. Bools are joined by & and |: both sides are at hand, and there is nothing to skip.
 ghost use mathlib.Core.Path.{_≡_};
-ghost use lib.Dec.{ltb, leb, eqb};
 ghost use Rattle.types.specs.Letters.{isNone, isUnique};
 ghost use Rattle.types.specs.Subtype.{dissatSub, mallSub};
 ghost use Rattle.types.specs.MalleabilityRules.{TRUE, FALSE, pkK, pkH, multi, multiA, hash, time};
 ghost use Rattle.types.specs.MalleabilityRules.{castAlt, castSwap, castCheck, castDupif, castVerify, castNonzero};
 ghost use Rattle.types.specs.MalleabilityRules.{castZeronotequal, castTrue, castOrIFalse};
-ghost use Rattle.types.specs.MalleabilityRules.{dissatAdded, noneIf, uniqueIf, andBDissat, orIDissat, andOrDissat, eitherSafe, andOrEach};
+ghost use Rattle.types.specs.MalleabilityRules.{dissatAdded, noneIf, uniqueIf, andBDissat, orIDissat, andOrDissat, eitherSafe};
 ghost use Rattle.types.specs.MalleabilityRules.{andB, andV, orB, orD, orC, orI, andOr};
 ghost use Rattle.types.specs.ThresholdSteps.{counted, mallFirst, mallNext, mallResult};
-ghost use Rattle.types.specs.Lists.{one};
-use crate::bools::both;
-use crate::bools::either;
-use crate::bools::implies;
 
 // Whether a fragment has a dissatisfaction, and whether it is the only one.
 pub enum Dissat {
@@ -29,8 +24,7 @@ impl Dissat {
     {
         match self {
             Dissat::None => true,
-            Dissat::Unique => false,
-            Dissat::Unknown => false,
+            _ => false,
         }
     }
 
@@ -39,9 +33,8 @@ impl Dissat {
         ensures { λ r. ⌜ r ≡ isUnique self ⌝ }
     {
         match self {
-            Dissat::None => false,
             Dissat::Unique => true,
-            Dissat::Unknown => false,
+            _ => false,
         }
     }
 
@@ -49,22 +42,10 @@ impl Dissat {
     pub fn is_subtype(self, other: Dissat) -> bool
         ensures { λ r. ⌜ r ≡ dissatSub self other ⌝ }
     {
-        match self {
-            Dissat::None => match other {
-                Dissat::None => true,
-                Dissat::Unique => false,
-                Dissat::Unknown => true,
-            },
-            Dissat::Unique => match other {
-                Dissat::None => false,
-                Dissat::Unique => true,
-                Dissat::Unknown => true,
-            },
-            Dissat::Unknown => match other {
-                Dissat::None => false,
-                Dissat::Unique => false,
-                Dissat::Unknown => true,
-            },
+        match other {
+            Dissat::None => self.is_none(),
+            Dissat::Unique => self.is_unique(),
+            Dissat::Unknown => true,
         }
     }
 
@@ -74,8 +55,7 @@ impl Dissat {
     {
         match self {
             Dissat::None => Dissat::Unique,
-            Dissat::Unique => Dissat::Unknown,
-            Dissat::Unknown => Dissat::Unknown,
+            _ => Dissat::Unknown,
         }
     }
 }
@@ -101,18 +81,16 @@ fn and_b_dissat(left: Dissat, right: Dissat, left_safe: bool, right_safe: bool) 
     match left {
         Dissat::None => match right {
             Dissat::None => Dissat::None,
-            Dissat::Unique => none_if(left_safe),
-            Dissat::Unknown => none_if(left_safe),
+            _ => none_if(left_safe),
         },
         Dissat::Unique => match right {
             Dissat::None => none_if(right_safe),
-            Dissat::Unique => unique_if(both(left_safe, right_safe)),
+            Dissat::Unique => unique_if(left_safe & right_safe),
             Dissat::Unknown => Dissat::Unknown,
         },
         Dissat::Unknown => match right {
             Dissat::None => none_if(right_safe),
-            Dissat::Unique => Dissat::Unknown,
-            Dissat::Unknown => Dissat::Unknown,
+            _ => Dissat::Unknown,
         },
     }
 }
@@ -122,16 +100,8 @@ fn or_i_dissat(left: Dissat, right: Dissat) -> Dissat
     ensures { λ r. ⌜ r ≡ orIDissat left right ⌝ }
 {
     match left {
-        Dissat::None => match right {
-            Dissat::None => Dissat::None,
-            Dissat::Unique => Dissat::Unique,
-            Dissat::Unknown => Dissat::Unknown,
-        },
-        Dissat::Unique => match right {
-            Dissat::None => Dissat::Unique,
-            Dissat::Unique => Dissat::Unknown,
-            Dissat::Unknown => Dissat::Unknown,
-        },
+        Dissat::None => right,
+        Dissat::Unique => right.added(),
         Dissat::Unknown => Dissat::Unknown,
     }
 }
@@ -187,9 +157,9 @@ impl Malleability {
         let dissat = self.dissat;
         let other_dissat = other.dissat;
         let x = dissat.is_subtype(other_dissat);
-        let s = implies(other.safe, self.safe);
-        let m = implies(other.non_malleable, self.non_malleable);
-        both(x, both(s, m))
+        let s = !other.safe | self.safe;
+        let m = !other.non_malleable | self.non_malleable;
+        x & (s & m)
     }
 
     // The malleability of pk_k.
@@ -354,8 +324,8 @@ impl Malleability {
         let left_dissat = left.dissat;
         let right_dissat = right.dissat;
         let dissat = and_b_dissat(left_dissat, right_dissat, left.safe, right.safe);
-        let safe = either(left.safe, right.safe);
-        let non_malleable = both(left.non_malleable, right.non_malleable);
+        let safe = left.safe | right.safe;
+        let non_malleable = left.non_malleable & right.non_malleable;
         Malleability {
             dissat,
             safe,
@@ -368,9 +338,9 @@ impl Malleability {
         ensures { λ r. ⌜ r ≡ andV left right ⌝ }
     {
         let right_dissat = right.dissat;
-        let dissat = none_if(either(right_dissat.is_none(), left.safe));
-        let safe = either(left.safe, right.safe);
-        let non_malleable = both(left.non_malleable, right.non_malleable);
+        let dissat = none_if(right_dissat.is_none() | left.safe);
+        let safe = left.safe | right.safe;
+        let non_malleable = left.non_malleable & right.non_malleable;
         Malleability {
             dissat,
             safe,
@@ -383,11 +353,8 @@ impl Malleability {
         ensures { λ r. ⌜ r ≡ eitherSafe left right ⌝ }
     {
         let left_dissat = left.dissat;
-        let unique = both(left.non_malleable, left_dissat.is_unique());
-        both(
-            both(unique, right.non_malleable),
-            either(left.safe, right.safe),
-        )
+        let unique = left.non_malleable & left_dissat.is_unique();
+        (unique & right.non_malleable) & (left.safe | right.safe)
     }
 
     // The malleability of or_b.
@@ -395,11 +362,8 @@ impl Malleability {
         ensures { λ r. ⌜ r ≡ orB left right ⌝ }
     {
         let right_dissat = right.dissat;
-        let safe = both(left.safe, right.safe);
-        let non_malleable = both(
-            Malleability::either_safe(left, right),
-            right_dissat.is_unique(),
-        );
+        let safe = left.safe & right.safe;
+        let non_malleable = Malleability::either_safe(left, right) & right_dissat.is_unique();
         Malleability {
             dissat: Dissat::Unique,
             safe,
@@ -412,7 +376,7 @@ impl Malleability {
         ensures { λ r. ⌜ r ≡ orD left right ⌝ }
     {
         let right_dissat = right.dissat;
-        let safe = both(left.safe, right.safe);
+        let safe = left.safe & right.safe;
         let non_malleable = Malleability::either_safe(left, right);
         Malleability {
             dissat: right_dissat,
@@ -425,7 +389,7 @@ impl Malleability {
     pub fn or_c(left: Self, right: Self) -> Self
         ensures { λ r. ⌜ r ≡ orC left right ⌝ }
     {
-        let safe = both(left.safe, right.safe);
+        let safe = left.safe & right.safe;
         let non_malleable = Malleability::either_safe(left, right);
         Malleability {
             dissat: Dissat::None,
@@ -441,9 +405,9 @@ impl Malleability {
         let left_dissat = left.dissat;
         let right_dissat = right.dissat;
         let dissat = or_i_dissat(left_dissat, right_dissat);
-        let safe = both(left.safe, right.safe);
-        let each = both(left.non_malleable, right.non_malleable);
-        let non_malleable = both(each, either(left.safe, right.safe));
+        let safe = left.safe & right.safe;
+        let each = left.non_malleable & right.non_malleable;
+        let non_malleable = each & (left.safe | right.safe);
         Malleability {
             dissat,
             safe,
@@ -451,25 +415,19 @@ impl Malleability {
         }
     }
 
-    // Whether a has m and e, and b and c have m.
-    fn and_or_each(a: Self, b: Self, c: Self) -> bool
-        ensures { λ r. ⌜ r ≡ andOrEach a b c ⌝ }
-    {
-        let a_dissat = a.dissat;
-        let a_each = both(a.non_malleable, a_dissat.is_unique());
-        both(a_each, both(b.non_malleable, c.non_malleable))
-    }
-
     // The malleability of andor.
     pub fn and_or(a: Self, b: Self, c: Self) -> Self
         ensures { λ r. ⌜ r ≡ andOr a b c ⌝ }
     {
+        let a_dissat = a.dissat;
         let b_dissat = b.dissat;
         let c_dissat = c.dissat;
-        let dissat = and_or_dissat(either(a.safe, b_dissat.is_none()), c_dissat);
-        let a_or_b = either(a.safe, b.safe);
-        let safe = both(a_or_b, c.safe);
-        let non_malleable = both(Malleability::and_or_each(a, b, c), either(a_or_b, c.safe));
+        let dissat = and_or_dissat(a.safe | b_dissat.is_none(), c_dissat);
+        let a_or_b = a.safe | b.safe;
+        let safe = a_or_b & c.safe;
+        let a_each = a.non_malleable & a_dissat.is_unique();
+        let each = a_each & (b.non_malleable & c.non_malleable);
+        let non_malleable = each & (a_or_b | c.safe);
         Malleability {
             dissat,
             safe,
@@ -489,20 +447,13 @@ fn counted(n: usize, safe: bool) -> usize
     }
 }
 
-// The number of a bool: 1 if it holds.
-fn one(b: bool) -> usize
-    ensures { λ r. ⌜ r ≡ one b ⌝ }
-{
-    if b { 1 } else { 0 }
-}
-
 impl MalleabilitySoFar {
     // What the first child of a threshold comes to.
     pub fn first(sub: Malleability) -> Self
         ensures { λ r. ⌜ r ≡ mallFirst sub ⌝ }
     {
         let dissat = sub.dissat;
-        let safe_count = one(sub.safe);
+        let safe_count = sub.safe as usize;
         let all_unique = dissat.is_unique();
         MalleabilitySoFar {
             safe_count,
@@ -517,8 +468,8 @@ impl MalleabilitySoFar {
     {
         let dissat = sub.dissat;
         let safe_count = counted(self.safe_count, sub.safe);
-        let all_unique = both(self.all_unique, dissat.is_unique());
-        let all_non_malleable = both(self.all_non_malleable, sub.non_malleable);
+        let all_unique = self.all_unique & dissat.is_unique();
+        let all_non_malleable = self.all_non_malleable & sub.non_malleable;
         MalleabilitySoFar {
             safe_count,
             all_unique,
@@ -530,35 +481,14 @@ impl MalleabilitySoFar {
     pub fn threshold(self, n: usize, others: usize) -> Malleability
         ensures { λ r. ⌜ r ≡ mallResult self n others ⌝ }
     {
-        let dissat = unique_if(both(self.all_unique, same(self.safe_count, n)));
-        let safe = less(others, self.safe_count);
-        let each = both(self.all_non_malleable, at_most(others, self.safe_count));
-        let non_malleable = both(each, self.all_unique);
+        let dissat = unique_if(self.all_unique & (self.safe_count == n));
+        let safe = others < self.safe_count;
+        let each = self.all_non_malleable & (others <= self.safe_count);
+        let non_malleable = each & self.all_unique;
         Malleability {
             dissat,
             safe,
             non_malleable,
         }
     }
-}
-
-// Whether a is b.
-fn same(a: usize, b: usize) -> bool
-    ensures { λ r. ⌜ r ≡ eqb a b ⌝ }
-{
-    a == b
-}
-
-// Whether a is below b.
-fn less(a: usize, b: usize) -> bool
-    ensures { λ r. ⌜ r ≡ ltb a b ⌝ }
-{
-    a < b
-}
-
-// Whether a is at most b.
-fn at_most(a: usize, b: usize) -> bool
-    ensures { λ r. ⌜ r ≡ leb a b ⌝ }
-{
-    a <= b
 }

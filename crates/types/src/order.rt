@@ -1,7 +1,7 @@
 // The derived order of types, and the number that packs a type in that order. The contracts cite specs/TypeOrder.antt.
 ghost use mathlib.Core.Path.{_≡_};
-ghost use Rattle.types.specs.TypeOrder.{baseRank, inputRank, dissatRank, boolRank, cmpRank, cmpType};
-ghost use Rattle.types.specs.TypeOrder.{pack, baseOf, inputOf, dissatOf, boolOf, unpackCorr, unpackMall, unpack};
+ghost use Rattle.types.specs.TypeOrder.{baseRank, inputRank, dissatRank, cmpRank, cmpType};
+ghost use Rattle.types.specs.TypeOrder.{pack, baseOf, inputOf, dissatOf, unpackCorr, unpackMall, unpack};
 use crate::Base;
 use crate::Correctness;
 use crate::Dissat;
@@ -56,13 +56,6 @@ impl Dissat {
     }
 }
 
-// The place of a bool among the two.
-fn bool_rank(b: bool) -> u8
-    ensures { λ r. ⌜ r ≡ boolRank b ⌝ }
-{
-    if b { 1 } else { 0 }
-}
-
 // The base of a digit.
 fn base_of(n: u32) -> Base
     ensures { λ r. ⌜ r ≡ baseOf n ⌝ }
@@ -99,13 +92,6 @@ fn dissat_of(n: u32) -> Dissat
     }
 }
 
-// The bool of a digit.
-fn bool_of(n: u32) -> bool
-    ensures { λ r. ⌜ r ≡ boolOf n ⌝ }
-{
-    n == 1
-}
-
 // How two packed numbers stand.
 fn cmp_rank(a: u32, b: u32) -> Ordering
     ensures { λ r. ⌜ r ≡ cmpRank a b ⌝ }
@@ -128,8 +114,8 @@ impl Correctness {
     {
         let base = base_of(n / 20);
         let input = input_of(n / 4 % 5);
-        let dissatisfiable = bool_of(n / 2 % 2);
-        let unit = bool_of(n % 2);
+        let dissatisfiable = n / 2 % 2 == 1;
+        let unit = n % 2 == 1;
         Correctness {
             base,
             input,
@@ -145,8 +131,8 @@ impl Malleability {
         ensures { λ r. ⌜ r ≡ unpackMall n ⌝ }
     {
         let dissat = dissat_of(n / 4);
-        let safe = bool_of(n / 2 % 2);
-        let non_malleable = bool_of(n % 2);
+        let safe = n / 2 % 2 == 1;
+        let non_malleable = n % 2 == 1;
         Malleability {
             dissat,
             safe,
@@ -167,11 +153,11 @@ impl Type {
         let dissat = mall.dissat;
         let b = base.rank() as u32;
         let i = input.rank() as u32;
-        let d = bool_rank(corr.dissatisfiable) as u32;
-        let u = bool_rank(corr.unit) as u32;
+        let d = corr.dissatisfiable as u32;
+        let u = corr.unit as u32;
         let x = dissat.rank() as u32;
-        let s = bool_rank(mall.safe) as u32;
-        let m = bool_rank(mall.non_malleable) as u32;
+        let s = mall.safe as u32;
+        let m = mall.non_malleable as u32;
         (((((b * 5 + i) * 2 + d) * 2 + u) * 3 + x) * 2 + s) * 2 + m
     }
 

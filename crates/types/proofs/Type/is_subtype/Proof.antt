@@ -7,12 +7,8 @@ is-subtype-requires c κs = tt
 is-subtype-requires-2 : tie.Need-is-subtype-requires-2
 is-subtype-requires-2 c κs = tt
 
-both-requires : tie.Need-both-requires
-both-requires c κs = tt
-
 returns : tie.Need-returns
-returns c = simp (c .both .ensures, c .before .is-subtype2 .ensures, c .before .before .is-subtype .ensures)
+returns c = simp (c .is-subtype2 .ensures, c .before .is-subtype .ensures)
 
 pub is-subtype-spec : {M : Type 1} → statement M
-is-subtype-spec =
-    tie.close (tie.spec is-subtype-requires is-subtype-requires-2 both-requires returns)
+is-subtype-spec = tie.close (tie.spec is-subtype-requires is-subtype-requires-2 returns)

@@ -7,20 +7,8 @@ same-requires c κs = tt
 is-w-requires : tie.Need-is-w-requires
 is-w-requires c κs = tt
 
-not-requires : tie.Need-not-requires
-not-requires c κs = tt
-
-both-requires : tie.Need-both-requires
-both-requires c κs = tt
-
 returns : tie.Need-returns
-returns c =
-    simp (
-      c .both .ensures,
-      c .before .not .ensures,
-      c .before .before .is-w .ensures,
-      c .before .before .before .same .ensures,
-    )
+returns c = simp (c .is-w .ensures, c .before .same .ensures)
 
 pub same-bkv-spec : {M : Type 1} → statement M
-same-bkv-spec = tie.close (tie.spec same-requires is-w-requires not-requires both-requires returns)
+same-bkv-spec = tie.close (tie.spec same-requires is-w-requires returns)

@@ -10,12 +10,6 @@ is-v-requires c κs = tt
 is-w-requires : tie.Need-is-w-requires
 is-w-requires c κs = tt
 
-not-requires : tie.Need-not-requires
-not-requires c κs = tt
-
-both-requires : tie.Need-both-requires
-both-requires c κs = tt
-
 ok-if-requires : tie.Need-ok-if-requires
 ok-if-requires c κs = tt
 
@@ -23,21 +17,10 @@ returns : tie.Need-returns
 returns c =
     simp (
       c .ok-if .ensures,
-      c .before .both .ensures,
-      c .before .before .not .ensures,
-      c .before .before .before .is-w .ensures,
-      c .before .before .before .before .is-v .ensures,
-      c .before .before .before .before .before .and-input .ensures,
+      c .before .is-w .ensures,
+      c .before .before .is-v .ensures,
+      c .before .before .before .and-input .ensures,
     )
 
 pub and-v-spec : {M : Type 1} → statement M
-and-v-spec =
-    tie.close
-    (tie.spec
-    and-input-requires
-    is-v-requires
-    is-w-requires
-    not-requires
-    both-requires
-    ok-if-requires
-    returns)
+and-v-spec = tie.close (tie.spec and-input-requires is-v-requires is-w-requires ok-if-requires returns)

@@ -7,21 +7,11 @@ is-nonzero-requires c κs = tt
 is-b-requires : tie.Need-is-b-requires
 is-b-requires c κs = tt
 
-both-requires : tie.Need-both-requires
-both-requires c κs = tt
-
 ok-if-requires : tie.Need-ok-if-requires
 ok-if-requires c κs = tt
 
 returns : tie.Need-returns
-returns c =
-    simp (
-      c .ok-if .ensures,
-      c .before .both .ensures,
-      c .before .before .is-b .ensures,
-      c .before .before .before .is-nonzero .ensures,
-    )
+returns c = simp (c .ok-if .ensures, c .before .is-b .ensures, c .before .before .is-nonzero .ensures)
 
 pub cast-nonzero-spec : {M : Type 1} → statement M
-cast-nonzero-spec =
-    tie.close (tie.spec is-nonzero-requires is-b-requires both-requires ok-if-requires returns)
+cast-nonzero-spec = tie.close (tie.spec is-nonzero-requires is-b-requires ok-if-requires returns)

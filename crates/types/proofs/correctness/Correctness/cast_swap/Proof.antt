@@ -7,21 +7,11 @@ is-b-requires c κs = tt
 is-one-requires : tie.Need-is-one-requires
 is-one-requires c κs = tt
 
-both-requires : tie.Need-both-requires
-both-requires c κs = tt
-
 ok-if-requires : tie.Need-ok-if-requires
 ok-if-requires c κs = tt
 
 returns : tie.Need-returns
-returns c =
-    simp (
-      c .ok-if .ensures,
-      c .before .both .ensures,
-      c .before .before .is-one .ensures,
-      c .before .before .before .is-b .ensures,
-    )
+returns c = simp (c .ok-if .ensures, c .before .is-one .ensures, c .before .before .is-b .ensures)
 
 pub cast-swap-spec : {M : Type 1} → statement M
-cast-swap-spec =
-    tie.close (tie.spec is-b-requires is-one-requires both-requires ok-if-requires returns)
+cast-swap-spec = tie.close (tie.spec is-b-requires is-one-requires ok-if-requires returns)

@@ -10,9 +10,6 @@ is-bdu-requires c κs = tt
 is-b-requires : tie.Need-is-b-requires
 is-b-requires c κs = tt
 
-both-requires : tie.Need-both-requires
-both-requires c κs = tt
-
 ok-if-requires : tie.Need-ok-if-requires
 ok-if-requires c κs = tt
 
@@ -20,19 +17,10 @@ returns : tie.Need-returns
 returns c =
     simp (
       c .ok-if .ensures,
-      c .before .both .ensures,
-      c .before .before .is-b .ensures,
-      c .before .before .before .is-bdu .ensures,
-      c .before .before .before .before .or-d-input .ensures,
+      c .before .is-b .ensures,
+      c .before .before .is-bdu .ensures,
+      c .before .before .before .or-d-input .ensures,
     )
 
 pub or-d-spec : {M : Type 1} → statement M
-or-d-spec =
-    tie.close
-    (tie.spec
-    or-d-input-requires
-    is-bdu-requires
-    is-b-requires
-    both-requires
-    ok-if-requires
-    returns)
+or-d-spec = tie.close (tie.spec or-d-input-requires is-bdu-requires is-b-requires ok-if-requires returns)

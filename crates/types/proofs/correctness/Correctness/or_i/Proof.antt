@@ -4,12 +4,6 @@ use Rattle.types.proofs.correctness.Correctness.or_i.Tie as tie
 or-i-input-requires : tie.Need-or-i-input-requires
 or-i-input-requires c κs = tt
 
-either-requires : tie.Need-either-requires
-either-requires c κs = tt
-
-both-requires : tie.Need-both-requires
-both-requires c κs = tt
-
 same-bkv-requires : tie.Need-same-bkv-requires
 same-bkv-requires c κs = tt
 
@@ -21,18 +15,8 @@ returns c =
     simp (
       c .ok-if .ensures,
       c .before .same-bkv .ensures,
-      c .before .before .both .ensures,
-      c .before .before .before .either .ensures,
-      c .before .before .before .before .or-i-input .ensures,
+      c .before .before .before .before .before .before .or-i-input .ensures,
     )
 
 pub or-i-spec : {M : Type 1} → statement M
-or-i-spec =
-    tie.close
-    (tie.spec
-    or-i-input-requires
-    either-requires
-    both-requires
-    same-bkv-requires
-    ok-if-requires
-    returns)
+or-i-spec = tie.close (tie.spec or-i-input-requires same-bkv-requires ok-if-requires returns)

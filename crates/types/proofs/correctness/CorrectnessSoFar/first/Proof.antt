@@ -4,24 +4,11 @@ use Rattle.types.proofs.correctness.CorrectnessSoFar.first.Tie as tie
 is-b-requires : tie.Need-is-b-requires
 is-b-requires c κs = tt
 
-is-ud-requires : tie.Need-is-ud-requires
-is-ud-requires c κs = tt
-
-both-requires : tie.Need-both-requires
-both-requires c κs = tt
-
 or-b-input-requires : tie.Need-or-b-input-requires
 or-b-input-requires c κs = tt
 
 returns : tie.Need-returns
-returns c =
-    simp (
-      c .or-b-input .ensures,
-      c .before .both .ensures,
-      c .before .before .is-ud .ensures,
-      c .before .before .before .is-b .ensures,
-    )
+returns c = simp (c .or-b-input .ensures, c .before .before .is-b .ensures)
 
 pub first-spec : {M : Type 1} → statement M
-first-spec =
-    tie.close (tie.spec is-b-requires is-ud-requires both-requires or-b-input-requires returns)
+first-spec = tie.close (tie.spec is-b-requires or-b-input-requires returns)

@@ -1,14 +1,14 @@
 use Rattle.types.proofs.malleability.MalleabilitySoFar.first.Statement.{statement}
 use Rattle.types.proofs.malleability.MalleabilitySoFar.first.Tie as tie
 
-one-requires : tie.Need-one-requires
-one-requires c κs = tt
+cast-safe-count : tie.Need-cast-safe-count
+cast-safe-count c = tt
 
 is-unique-requires : tie.Need-is-unique-requires
 is-unique-requires c κs = tt
 
 returns : tie.Need-returns
-returns c = simp (c .is-unique .ensures, c .before .one .ensures)
+returns c = simp (c .is-unique .ensures)
 
 pub first-spec : {M : Type 1} → statement M
-first-spec = tie.close (tie.spec one-requires is-unique-requires returns)
+first-spec = tie.close (tie.spec cast-safe-count is-unique-requires returns)
