@@ -10,3 +10,4 @@ pub mod Reading
 pub mod Compiling
 pub mod Passing
 pub mod Steps
+pub mod Bodies

@@ -1,3 +1,4 @@
 -- What the laws of compile speak of.
 pub mod FormedPolicy
 pub mod Laws
+pub mod Bodies

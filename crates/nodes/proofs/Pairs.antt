@@ -29,15 +29,9 @@ use Rattle.memory.specs.Layout.{nodeCount}
 use Rattle.nodes.specs.Words.{nodeAt}
 use Rattle.nodes.specs.Views.{treeOf, seenAs, seen, offered}
 use Rattle.nodes.specs.Answers.{Holds}
-use Rattle.nodes.specs.Offers.{Offerable}
+use Rattle.nodes.specs.Offers.{Offerable, madeSeen}
 use Rattle.nodes.proofs.Seen.{Shows, TreeIs, seen-fields}
 use Rattle.nodes.proofs.Offers.{both-true, plainKind, made-offers, node-entered}
-
--- what the code's pair or triple stands for
-abbrev pub madeSeen : (pol m : List ℕ) → Made → definition.Made
-madeSeen pol m (Made.Candidate y) = definition.made (offered pol m y)
-madeSeen pol m Made.PassedOver = definition.passedOver
-madeSeen pol m Made.Missing = definition.missing
 
 -- the definition's pair of a kind's number; another kind is passed over
 abbrev pub pairNo : ℕ → definition.Pair

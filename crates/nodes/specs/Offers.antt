@@ -1,13 +1,24 @@
--- What may be offered to a table: a candidate within its bounds, which is not valid in its context yet. Assumes nothing.
+-- What may be offered to a table, a candidate within its bounds, which is not valid in its context yet; and what was made of nodes, as the
+-- definition has it. Assumes nothing.
 use mathlib.Core.List.{List}
 use mathlib.Core.Path.{_≡_}
 use Prim.Native.Nat.{ℕ, _<_}
 use Rattle.figures.specs.Bounds as bounds
+use Rattle.compilation.specs.Candidates as definition
 use Rattle.candidates.specs.declared.Candidate.{Candidate}
+use Rattle.candidates.specs.declared.Made.{Made}
+use Rattle.candidates.specs.declared.Made.the-variants as Made
 use Rattle.memory.specs.Layout.{nodeCount, rowCount}
+use Rattle.nodes.specs.Views.{offered}
 use Rattle.nodes.specs.Answers.{threshKind}
 
 pub record Offerable (m : List ℕ) (x : Candidate) : Type 0 where
   pub candidate : bounds.Candidate (nodeCount m) (x .ext)
   pub kind : x .kind < 64
   pub rowed : x .kind ≡ threshKind → x .second < rowCount m
+
+-- a pair, a triple or a Thresh
+abbrev pub madeSeen : (pol m : List ℕ) → Made → definition.Made
+madeSeen pol m (Made.Candidate y) = definition.made (offered pol m y)
+madeSeen pol m Made.PassedOver = definition.passedOver
+madeSeen pol m Made.Missing = definition.missing

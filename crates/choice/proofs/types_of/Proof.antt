@@ -1,0 +1,74 @@
+-- `choice::types_of` meets its contract: the first i are filled. Assumes nothing.
+use mathlib.Core.Path.{ap}
+use Prim.Native.Nat.{_-_}
+use native.Mathlib.Omega.{arith}
+use borrow.Author.Needs.{needs}
+use Rattle.candidates.specs.declared.Candidate.{Candidate}
+use Rattle.nodes.specs.Words.{nodeAt}
+use Rattle.choice.proofs.Filling.{Filling, filling-starts, filling-on, filling-ends}
+use Rattle.choice.proofs.types_of.Statement.{statement}
+use Rattle.choice.proofs.types_of.Tie as tie
+
+abbrev Inv-loop : tie.InvT-loop
+Inv-loop work n row types₀ i₀ types i = Filling (λ e. nodeAt work e .ty) row n types i
+
+abbrev μ-loop : tie.MeasureT-loop
+μ-loop work n row types₀ i₀ types i = n - i
+
+of-false-requires : tie.Need-of-false-requires Inv-loop μ-loop
+of-false-requires c κs = search needs
+
+loop-holds : tie.Need-loop-holds Inv-loop μ-loop
+loop-holds c =
+    let args = c .before .before .args in
+    let pre = c .before .before .pre in
+    filling-starts (λ e. nodeAt (args .work .now) e .ty) (args .t2) (args .n) _ (search needs) (search needs) (pre .1)
+
+mul-e : tie.Need-mul-e Inv-loop μ-loop
+mul-e c = omega arith
+
+array-read-e : tie.Need-array-read-e Inv-loop μ-loop
+array-read-e c = omega arith
+
+node-requires : tie.Need-node-requires Inv-loop μ-loop
+node-requires c κs = c .before .before .before .before .pre .0
+
+mul-types : tie.Need-mul-types Inv-loop μ-loop
+mul-types c = omega arith
+
+array-set-from-types : tie.Need-array-set-from-types Inv-loop μ-loop
+array-set-from-types c = omega arith
+
+add-i : tie.Need-add-i Inv-loop μ-loop
+add-i c = omega arith
+
+loop-less : tie.Need-loop-less Inv-loop μ-loop
+loop-less c = omega arith
+
+loop-again : tie.Need-loop-again Inv-loop μ-loop
+loop-again c =
+    let loop = c .before .before .before .loop in
+    let loop-test = c .before .before .loop-test in
+    let node = c .before .node in
+    filling-on (loop .inv) (loop-test .taken) (ap (λ (x : Candidate). x .ty) (node .ensures))
+
+returns : tie.Need-returns Inv-loop μ-loop
+returns c = filling-ends (c .before .loop .inv) (c .loop-test .left)
+
+pub types-of-spec : {M : Type 1} → statement M
+types-of-spec =
+    tie.close
+    (tie.spec
+    Inv-loop
+    μ-loop
+    of-false-requires
+    loop-holds
+    mul-e
+    array-read-e
+    node-requires
+    mul-types
+    array-set-from-types
+    add-i
+    loop-less
+    loop-again
+    returns)

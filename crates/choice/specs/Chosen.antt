@@ -1,0 +1,61 @@
+-- The cheapest entry of a remembered table that suits, from `best` and `best_t` in policy/compiler.rs, by the definition (compilation,
+-- specs/Search.antt: cheapest) on what the entries stand for. Assumes nothing.
+use mathlib.Core.Bool.{Bool, cond, _&&_}
+use mathlib.Core.List.{List}
+use mathlib.Core.Option.{Option, none, some}
+use mathlib.Core.Path.{_≡_}
+use Prim.Native.Nat.{ℕ, _<_}
+use lib.Ieee.{Float}
+use Rattle.words.specs.Floats.{costLe}
+use Rattle.types.specs.declared.correctness.Base.{Base}
+use Rattle.types.specs.declared.correctness.Base.the-variants.{B, W}
+use Rattle.types.specs.declared.«Type».{«Type»}
+use Rattle.types.specs.Letters.{baseEq, isUnique}
+use Rattle.compilation.specs.Candidates.{Candidate}
+use Rattle.compilation.specs.Tables.{Probs}
+use Rattle.compilation.specs.Search.{suitsThresh, isBaseB, cheapest}
+use Rattle.candidates.specs.Candidates as code
+use Rattle.memory.specs.Layout.{nodeCount}
+use Rattle.nodes.specs.Words.{nodeAt}
+use Rattle.nodes.specs.Views.{seen}
+use Rattle.recall.specs.State.{slotTable}
+use Rattle.choice.specs.declared.Want.{Want}
+use Rattle.choice.specs.declared.Want.the-variants as Want
+use Rattle.choice.specs.declared.Chosen.{Chosen}
+use Rattle.choice.specs.declared.Chosen.the-variants.{At, Missing}
+
+-- which entries suit: of a Thresh's child as E and as W, and of the root
+abbrev pub suitsWant : Want → Candidate → Bool
+suitsWant Want.E x = suitsThresh B x
+suitsWant Want.W x = suitsThresh W x
+suitsWant Want.Root x = isBaseB x
+
+abbrev pub chosenSeen : (pol m : List ℕ) → Chosen → Option Candidate
+chosenSeen pol m (At e) = some (seen pol m e)
+chosenSeen pol m Missing = none
+
+-- the choice from table s at two probabilities
+pub record Chooses (m : List ℕ) (s : ℕ) (p : Probs) (want : Want) (r : Chosen) : Type 0 where
+  pub says : (pol : List ℕ) → cheapest p (suitsWant want) (slotTable pol m s) ≡ chosenSeen pol m r
+  pub there : (e : ℕ) → r ≡ At e → e < nodeCount m
+
+-- ---- the same of the numbers of nodes
+
+abbrev pub suitsAs : Base → «Type» → Bool
+suitsAs b t = baseEq (t .corr .base) b && (t .corr .unit && isUnique (t .mall .dissat))
+
+abbrev pub suitsType : Want → «Type» → Bool
+suitsType Want.E t = suitsAs B t
+suitsType Want.W t = suitsAs W t
+suitsType Want.Root t = baseEq (t .corr .base) B
+
+abbrev pub priceAt : List ℕ → Probs → ℕ → Float
+priceAt m p e = code.costAt (nodeAt m e) (p .sat) (p .dissat)
+
+-- an entry before others of which the best is known
+abbrev pub cheaperAt : List ℕ → Probs → ℕ → Chosen → Chosen
+cheaperAt m p e Missing = At e
+cheaperAt m p e (At y) = cond (costLe (priceAt m p e) (priceAt m p y)) (At e) (At y)
+
+abbrev pub nextAt : List ℕ → Probs → Want → ℕ → Chosen → Chosen
+nextAt m p want e best = cond (suitsType want (nodeAt m e .ty)) (cheaperAt m p e best) best

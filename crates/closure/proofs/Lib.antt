@@ -1,0 +1,6 @@
+-- Why the closure of casts is right.
+pub mod Waiting
+pub mod Extending
+pub mod Offering
+pub mod Casting
+pub mod Closing

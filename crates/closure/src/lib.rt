@@ -1,0 +1,170 @@
+// The closure of casts: a candidate is offered to a table, and each candidate that is accepted is cast all ten ways, first in, first out
+// (insert_elem_closure in policy/compiler.rs).
+//
+// Its contracts cite `specs/Closed.antt`.
+ghost use Prim.Native.Nat.{_<_};
+ghost use Rattle.compilation.specs.Tables.{probs};
+ghost use Rattle.memory.specs.Layout.{nodeCount};
+ghost use Rattle.nodes.specs.Answers.{Holds};
+ghost use Rattle.nodes.specs.Offers.{Offerable};
+ghost use Rattle.table.specs.Rows.{TableHolds};
+ghost use Rattle.closure.specs.Closed.{OfferedCast, OfferedCasts, Closes};
+use candidates::Candidate;
+use candidates::CastResult;
+use costs::DissatProb;
+use table::Offer;
+use table::Table;
+use terms::Context;
+
+// The casts, and the most elements that one closure pops.
+const CASTS: u8 = 10;
+
+const MAX_POPS: usize = 4096;
+
+// Document 01's refusal for one element more.
+const FUEL_SPENT: u8 = 9;
+
+// How offers ended: all were taken or turned away, or one was refused with a number of document 01.
+pub enum End {
+    Done,
+    Refused(u8),
+}
+
+pub struct Closed {
+    pub table: Table,
+    pub end: End,
+}
+
+// The cast of a number of node e is offered.
+fn offer_cast(
+    context: Context,
+    work: &mut [u64],
+    sat: f64,
+    dissat: DissatProb,
+    e: u16,
+    number: u8,
+    t: Table,
+) -> Closed
+    requires { ⌜ Holds (now work) × (TableHolds (now work) t × ((e < nodeCount (now work)) × (number < 10))) ⌝ }
+    ensures { λ r. ⌜ OfferedCast context (probs sat dissat) e number t r (now (work .entry)) (now (work .exit)) ⌝ }
+{
+    let x = nodes::node(work, e);
+    match x.cast(e, number) {
+        CastResult::Cast(y) => {
+            let step = table::insert(context, work, sat, dissat, y, t);
+            let table = step.table;
+            let offer = step.offer;
+            match offer {
+                Offer::Entered => Closed {
+                    table,
+                    end: End::Done,
+                },
+                Offer::TurnedAway => Closed {
+                    table,
+                    end: End::Done,
+                },
+                Offer::Refused(n) => Closed {
+                    table,
+                    end: End::Refused(n),
+                },
+            }
+        }
+        CastResult::IllTyped => Closed {
+            table: t,
+            end: End::Done,
+        },
+        CastResult::Unknown => Closed {
+            table: t,
+            end: End::Done,
+        },
+    }
+}
+
+// The ten casts of node e are offered, in their order.
+fn cast_all(
+    context: Context,
+    work: &mut [u64],
+    sat: f64,
+    dissat: DissatProb,
+    e: u16,
+    t: Table,
+) -> Closed
+    requires { ⌜ Holds (now work) × (TableHolds (now work) t × (e < nodeCount (now work))) ⌝ }
+    ensures { λ r. ⌜ OfferedCasts context (probs sat dissat) e t r (now (work .entry)) (now (work .exit)) ⌝ }
+{
+    let mut table = t;
+    let mut number: u8 = 0;
+    while number < CASTS {
+        let c = offer_cast(context, work, sat, dissat, e, number, table);
+        table = c.table;
+        let end = c.end;
+        match end {
+            End::Refused(n) => {
+                return Closed {
+                    table,
+                    end: End::Refused(n),
+                };
+            }
+            End::Done => {}
+        }
+        number += 1;
+    }
+    Closed {
+        table,
+        end: End::Done,
+    }
+}
+
+// The candidate x is offered, and all that casts make of it.
+pub fn insert_closure(
+    context: Context,
+    work: &mut [u64],
+    sat: f64,
+    dissat: DissatProb,
+    x: Candidate,
+    t: Table,
+) -> Closed
+    requires { ⌜ Holds (now work) × (TableHolds (now work) t × Offerable (now work) x) ⌝ }
+    ensures { λ r. ⌜ Closes context (probs sat dissat) x t r (now (work .entry)) (now (work .exit)) ⌝ }
+{
+    let first = nodes::count(work);
+    let step = table::insert(context, work, sat, dissat, x, t);
+    let mut table = step.table;
+    let offer = step.offer;
+    match offer {
+        Offer::Refused(n) => {
+            return Closed {
+                table,
+                end: End::Refused(n),
+            };
+        }
+        Offer::Entered => {}
+        Offer::TurnedAway => {}
+    }
+    let mut pops = 0;
+    while first + pops < nodes::count(work) {
+        if pops == MAX_POPS {
+            return Closed {
+                table,
+                end: End::Refused(FUEL_SPENT),
+            };
+        }
+        let c = cast_all(context, work, sat, dissat, (first + pops) as u16, table);
+        table = c.table;
+        let end = c.end;
+        match end {
+            End::Refused(n) => {
+                return Closed {
+                    table,
+                    end: End::Refused(n),
+                };
+            }
+            End::Done => {}
+        }
+        pops += 1;
+    }
+    Closed {
+        table,
+        end: End::Done,
+    }
+}

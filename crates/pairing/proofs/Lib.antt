@@ -1,0 +1,4 @@
+-- The laws of pairings.
+pub mod Numbered
+pub mod Placed
+pub mod Turns

@@ -1,0 +1,18 @@
+use borrow.Author.Needs.{needs}
+use Rattle.stages.proofs.or_dissat.Statement.{statement}
+use Rattle.stages.proofs.or_dissat.Tie as tie
+
+enum-known-dissat : tie.Need-enum-known-dissat
+enum-known-dissat c = search needs
+
+enum-told : tie.Need-enum-told
+enum-told c = search needs
+
+returns : tie.Need-returns
+returns c = simp (c .before .dissat .given .1)
+
+returns-2 : tie.Need-returns-2
+returns-2 c = simp (c .enum-told .given .1)
+
+pub or-dissat-spec : {M : Type 1} → statement M
+or-dissat-spec = tie.close (tie.spec enum-known-dissat enum-told returns returns-2)
