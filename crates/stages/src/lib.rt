@@ -51,13 +51,27 @@ fn one_ask(r: usize, sat: f64, dissat: DissatProb) -> Ask
 fn pair(kind: u16, first: u8, second: u8, lw: f64, rw: f64) -> Pairing
     ensures { λ a. ⌜ a ≡ pairing kind first second 0 lw rw ⌝ }
 {
-    Pairing { kind, first, second, third: 0, lw, rw }
+    Pairing {
+        kind,
+        first,
+        second,
+        third: 0,
+        lw,
+        rw,
+    }
 }
 
 fn triple(first: u8, second: u8, third: u8, lw: f64, rw: f64) -> Pairing
     ensures { λ a. ⌜ a ≡ pairing 55 first second third lw rw ⌝ }
 {
-    Pairing { kind: AND_OR, first, second, third, lw, rw }
+    Pairing {
+        kind: AND_OR,
+        first,
+        second,
+        third,
+        lw,
+        rw,
+    }
 }
 
 // The searches of an And of l and r.
@@ -96,7 +110,15 @@ fn or_dissat(dissat: DissatProb, v: f64, sat: f64) -> DissatProb
 }
 
 // The searches of an Or one side of which, of weight w, is an And of x and y; the other has weight v.
-pub fn and_or_asks(x: usize, y: usize, other: usize, sat: f64, dissat: DissatProb, w: f64, v: f64) -> [Ask; 8]
+pub fn and_or_asks(
+    x: usize,
+    y: usize,
+    other: usize,
+    sat: f64,
+    dissat: DissatProb,
+    w: f64,
+    v: f64,
+) -> [Ask; 8]
     ensures { λ a. ⌜ take 5 a ≡ andOrAsks x y other sat dissat w v ⌝ }
 {
     let both = or_dissat(dissat, v, sat);

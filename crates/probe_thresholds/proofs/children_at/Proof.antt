@@ -39,9 +39,11 @@ loop-less : tie.Need-loop-less Inv-loop μ-loop
 loop-less c = omega arith
 
 loop-again : tie.Need-loop-again Inv-loop μ-loop
-loop-again c =
-    (omega arith, children-set (c .before .before .loop .a) (c .before .before .loop .i) (c .child-at .result)
-    (c .before .before .loop .inv .1) (c .child-at .ensures))
+loop-again c = (
+  omega arith,
+  children-set (c .before .before .loop .a) (c .before .before .loop .i) (c .child-at .result)
+      (c .before .before .loop .inv .1) (c .child-at .ensures),
+)
 
 returns : tie.Need-returns Inv-loop μ-loop
 returns c = c .before .loop .inv .1
