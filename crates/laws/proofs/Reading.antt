@@ -16,7 +16,7 @@ use Rattle.records.specs.Payloads.{Payload, payloadOf, childrenOf, numberOf, kO
 use Rattle.records.specs.RecordForm.{recordLength, kindOf, policyPayload}
 use Rattle.records.specs.declared.Shape.{Shape}
 use Rattle.records.specs.declared.Shape.the-variants as Shape
-use Rattle.records.proofs.Laws.{policy-record, is-number, is-lock, is-threshold, lock-bounds, threshold-bounds}
+use Rattle.records.proofs.Laws.{policy-record, is-number, is-lock, is-weighted, is-threshold, lock-bounds, threshold-bounds}
 use Rattle.policies.specs.Policy.{Policy, toList, fromList, depth}
 use Rattle.policies.specs.Forms.{made, nth, andKind, orKind, threshKind}
 use Rattle.policies.specs.Reading.{badPolicy, zeroWeight, policyTooLarge, maxRecords, maxDepth, Answer, refused, done, _>>=_, orRefuse, refuseIf}
@@ -165,6 +165,9 @@ module _ (s : List ℕ) {p : Payload} (below : AllBelow 256 s) (e : policyPayloa
       let this = is-lock s shaped in
       rw this (lock-bounds s (shaped ∙ ap some this))
 
+  weights-fine : shapeOf orKind ≡ some Shape.Weighted → kindOf s ≡ orKind → IsU32 (leftWeightOf p) × IsU32 (rightWeightOf p)
+  weights-fine known k = rw (is-weighted s (shape-known orKind known k)) (u32-below s 8 below, u32-below s 12 below)
+
   threshold-fine : shapeOf threshKind ≡ some Shape.Threshold → kindOf s ≡ threshKind → IsThreshold (kOf p) (length (childrenOf p))
   threshold-fine known k =
       let shaped = shape-known threshKind known k in
@@ -184,7 +187,7 @@ module _ (s : List ℕ) {p : Payload} (below : AllBelow 256 s) (e : policyPayloa
       (by-kind (kindOf s) 8 _ _ (number-fine 8 refl)
       (by-kind (kindOf s) 9 _ _ (number-fine 9 refl)
       (by-kind (kindOf s) andKind _ _ (λ k. (nth-formed 0 hs, nth-formed 1 hs))
-      (by-kind (kindOf s) orKind _ _ (λ k. (nth-formed 0 hs, nth-formed 1 hs))
+      (by-kind (kindOf s) orKind _ _ (λ k. (nth-formed 0 hs, nth-formed 1 hs, weights-fine refl k))
       (by-kind (kindOf s) threshKind _ _ (λ k. (subst (IsThreshold (kOf p)) as-many (threshold-fine refl k), all-formed hs))
       tt))))))))))
     where

@@ -1,0 +1,4 @@
+-- Why what is offered to a table is right.
+pub mod Leaves
+pub mod Casts
+pub mod Entries

@@ -1,0 +1,69 @@
+-- What is offered to a table by the search of a leaf, and by the casts of a remembered table's entries, by the definition (compilation,
+-- specs/Search.antt) on what work memory stands for. Assumes nothing.
+use mathlib.Core.List.{List, [], _∷_}
+use mathlib.Core.Path.{_≡_}
+use Prim.Native.Nat.{ℕ, _<_}
+use Rattle.terms.specs.declared.Context.{Context}
+use Rattle.policies.specs.Policy.{Policy}
+use Rattle.policies.specs.Forms.{kindOf, numberOf}
+use Rattle.policies.specs.Array.{policyAt}
+use Rattle.writing.specs.WellFormed.{AllBelow}
+use Rattle.candidates.specs.declared.Candidate as node
+use Rattle.compilation.specs.Tables.{Probs}
+use Rattle.compilation.specs.Refusals.{Stored}
+use Rattle.compilation.specs.Search.{leaves, insertedIfTyped, forEach}
+use Rattle.laws.specs.FormedPolicy.{FormedPolicy}
+use Rattle.laws.specs.Bodies.{bodyOf}
+use Rattle.memory.specs.Layout.{nodeCount, tableCount}
+use Rattle.nodes.specs.Views.{seen, offered}
+use Rattle.nodes.specs.Answers.{Holds}
+use Rattle.nodes.specs.Offers.{Offerable}
+use Rattle.remembered.specs.Slots.{slotAt, Kept}
+use Rattle.table.specs.declared.Table as code-table
+use Rattle.table.specs.Rows.{TableHolds}
+use Rattle.table.specs.Inserted.{stateOf, seenTable, Extends}
+use Rattle.closure.specs.declared.End.the-variants.{Done}
+use Rattle.closure.specs.declared.Closed.{Closed}
+use Rattle.closure.specs.Closed.{answer, castNo}
+use Rattle.recall.specs.State.{slotTable}
+
+-- ---- what a policy is
+
+pub record IsLeaf (q : Policy) (kind number : ℕ) : Type 0 where
+  pub isKind : kindOf q ≡ kind
+  pub isNumber : numberOf q ≡ number
+  pub low : kind < 10
+
+-- ---- a table with no entry, and leaves
+
+pub record Empty (c : Closed) : Type 0 where
+  pub none : c .table .len ≡ 0
+  pub done : c .end ≡ Done
+
+-- the candidate of a leaf that is no key
+pub record LeafOf (kind number r : ℕ) (x : node.Candidate) : Type 0 where
+  pub says : (pol m : List ℕ) → IsLeaf (policyAt pol r) kind number → FormedPolicy (policyAt pol r) → (kind ≡ 3 → ⊥)
+      → (c : Context) → bodyOf c (policyAt pol r) ≡ leaves c (offered pol m x ∷ [])
+  pub offers : (m : List ℕ) → Offerable m x
+
+-- ---- casts of the entries of a slot
+
+pub record InsertedCast (c : Context) (p : Probs) (e number : ℕ) (t : code-table.Table) (r : Closed) (m₀ m : List ℕ) : Type 0 where
+  pub says : (pol : List ℕ) (ts : List Stored) →
+      insertedIfTyped c p (castNo number (seen pol m₀ e)) (seenTable pol m₀ t) (stateOf m₀ ts)
+      ≡ answer (r .end) (seenTable pol m (r .table)) (stateOf m ts)
+  pub extends : Extends m₀ m
+  pub table : TableHolds m (r .table)
+
+pub record SlotReady (m : List ℕ) (s : ℕ) : Type 0 where
+  pub nodes : Holds m
+  pub tables : Kept m
+  pub there : s < tableCount m
+  pub below : AllBelow (nodeCount m) (slotAt m s .entries)
+
+pub record InsertedCasts (c : Context) (p : Probs) (s number : ℕ) (t : code-table.Table) (r : Closed) (m₀ m : List ℕ) : Type 0 where
+  pub says : (pol : List ℕ) (ts : List Stored) →
+      forEach (λ x. insertedIfTyped c p (castNo number x)) (slotTable pol m₀ s) (seenTable pol m₀ t) (stateOf m₀ ts)
+      ≡ answer (r .end) (seenTable pol m (r .table)) (stateOf m ts)
+  pub extends : Extends m₀ m
+  pub table : TableHolds m (r .table)
