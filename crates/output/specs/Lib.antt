@@ -1,0 +1,4 @@
+-- What a reader of this crate must believe, in reading order.
+pub mod Records
+pub mod Answers
+pub mod Inside
