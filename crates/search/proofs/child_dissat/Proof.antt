@@ -1,0 +1,20 @@
+use borrow.Author.Needs.{needs}
+use Rattle.search.proofs.child_dissat.Statement.{statement}
+use Rattle.search.proofs.child_dissat.Tie as tie
+use Rattle.search.proofs.child_dissat.Reads as reads
+use Rattle.search.proofs.child_dissat.Lts as lts
+
+enum-known-dissat : tie.Need-enum-known-dissat
+enum-known-dissat c = search needs
+
+enum-told : tie.Need-enum-told
+enum-told c = search needs
+
+returns : tie.Need-returns
+returns c = simp (c .before .dissat .given .1)
+
+returns-2 : tie.Need-returns-2
+returns-2 c = simp (c .enum-told .given .1)
+
+pub child-dissat-spec : {M : Type 1} → statement M
+child-dissat-spec = tie.close (tie.spec enum-known-dissat enum-told returns returns-2)
