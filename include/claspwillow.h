@@ -14,6 +14,17 @@ enum {
     CLASPWILLOW_DONE = 0,
     CLASPWILLOW_BAD_CONTEXT = 1,
     CLASPWILLOW_BAD_WORK = 2,
+    CLASPWILLOW_BAD_POLICY = 3,
+    CLASPWILLOW_ZERO_WEIGHT = 4,
+    CLASPWILLOW_POLICY_TOO_LARGE = 5,
+    CLASPWILLOW_NODES_FULL = 6,
+    CLASPWILLOW_TABLE_FULL = 7,
+    CLASPWILLOW_CACHE_FULL = 8,
+    CLASPWILLOW_FUEL_SPENT = 9,
+    CLASPWILLOW_NOT_A_COST = 10,
+    CLASPWILLOW_LIMITS_EXCEEDED = 11,
+    CLASPWILLOW_TOP_LEVEL_NON_SAFE = 12,
+    CLASPWILLOW_OUTPUT_TOO_SMALL = 13,
     CLASPWILLOW_BAD_TREE = 14,
     CLASPWILLOW_ILL_TYPED = 15,
     CLASPWILLOW_TREE_TOO_LARGE = 16
@@ -24,6 +35,15 @@ enum {
     CLASPWILLOW_SEGWIT_V0 = 0,
     CLASPWILLOW_TAPSCRIPT = 1
 };
+
+/* Compiles a policy. Writes the records of its tree to the front of `out`, and gives how many bytes they are in *bytes, the bits of the tree's
+ * cost (a double) in *cost and the nodes used in *nodes. On a refusal all three are 0 and `out` is as it was.
+ * `work` is lent: claspwillow_compile_work() words, of any content; they are all zero afterwards, whatever the call gives. */
+uint32_t claspwillow_compile(uint32_t context, const uint8_t *policy, size_t policy_len, uint8_t *out, size_t out_len, uint64_t *work,
+                             size_t work_len, uint64_t *bytes, uint64_t *cost, uint64_t *nodes);
+
+/* The one length of `work`, in words, that claspwillow_compile takes. */
+size_t claspwillow_compile_work(void);
 
 /* Checks a fragment tree and gives its root's packed type in *ty (0 on a refusal).
  * `work` is lent: claspwillow_check_work() words, of any content; they are all zero afterwards, whatever the call gives. */

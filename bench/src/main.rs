@@ -47,6 +47,8 @@ pub mod policy {
 mod answers;
 #[cfg(port)]
 mod check;
+#[cfg(port)]
+mod compile;
 mod figures;
 mod oracle;
 mod policies;
@@ -74,6 +76,8 @@ const USAGE: &str = "usage:
   bench answers                        writes the stored list, answers/compile.txt, anew
   bench figures                        compares the Rust's costs with document 01's figures
   bench check SEED COUNT MAXRECORDS    runs COUNT random trees of each flavour and context through the Rust's type rules and the port
+  bench compile SEED COUNT MAXRECORDS  runs COUNT random policies, some damaged, through the Rust and the port
+  bench replay                         runs the stored list through the port
   bench rules SEED COUNT               runs COUNT rules in each context and COUNT thresholds over random candidates through the Rust and the port
 ";
 
@@ -116,9 +120,35 @@ fn check(words: [&str; 3]) -> Result<bool, String> {
     Ok(check::run(seed, count, records))
 }
 
+#[cfg(port)]
+fn compile(words: [&str; 3]) -> Result<bool, String> {
+    let (seed, count, records) = numbers(words, 64)?;
+    Ok(compile::run(seed, count, records))
+}
+
+#[cfg(port)]
+fn replay() -> Result<bool, String> {
+    Ok(compile::replay())
+}
+
+#[cfg(not(port))]
+fn no_port() -> Result<bool, String> {
+    Err("bench: built without the port; CLASPWILLOW_LIB names its library when bench is built (docs/BENCH.md)\n".to_string())
+}
+
 #[cfg(not(port))]
 fn check(_: [&str; 3]) -> Result<bool, String> {
-    Err("bench: built without the port; CLASPWILLOW_LIB names its library when bench is built (docs/BENCH.md)\n".to_string())
+    no_port()
+}
+
+#[cfg(not(port))]
+fn compile(_: [&str; 3]) -> Result<bool, String> {
+    no_port()
+}
+
+#[cfg(not(port))]
+fn replay() -> Result<bool, String> {
+    no_port()
 }
 
 #[cfg(all(probe, probe_thresholds))]
@@ -149,6 +179,8 @@ fn run(words: &[&str]) -> Result<bool, String> {
             }
         },
         ["check", seed, count, records] => check([seed, count, records]),
+        ["compile", seed, count, records] => compile([seed, count, records]),
+        ["replay"] => replay(),
         ["rules", seed, count] => rules([seed, count]),
         ["figures"] => Ok(figures::run()),
         _ => Err(USAGE.to_string()),

@@ -7,6 +7,19 @@ use std::slice;
 extern "C" {
     fn claspwillow_check(context: u32, tree: *const u8, tree_len: usize, work: *mut u64, work_len: usize, ty: *mut u32) -> u32;
     fn claspwillow_check_work() -> usize;
+    fn claspwillow_compile(
+        context: u32,
+        policy: *const u8,
+        policy_len: usize,
+        out: *mut u8,
+        out_len: usize,
+        work: *mut u64,
+        work_len: usize,
+        bytes: *mut u64,
+        cost: *mut u64,
+        nodes: *mut u64,
+    ) -> u32;
+    fn claspwillow_compile_work() -> usize;
 }
 
 #[cfg(all(probe, probe_thresholds))]
@@ -27,6 +40,34 @@ pub fn check_work() -> usize {
 pub fn check(context: u32, tree: &[u8], work: &mut [u64], ty: &mut u32) -> u32 {
     // SAFETY: each slice is passed as its own pointer and length.
     unsafe { claspwillow_check(context, tree.as_ptr(), tree.len(), work.as_mut_ptr(), work.len(), slice::from_mut(ty).as_mut_ptr()) }
+}
+
+/// The words of work memory that compile asks for.
+#[cfg(port)]
+pub fn compile_work() -> usize {
+    // SAFETY: the function takes nothing.
+    unsafe { claspwillow_compile_work() }
+}
+
+/// The number, and the bytes, the cost bits and the nodes as the call left them in `results`.
+#[cfg(port)]
+pub fn compile(context: u32, policy: &[u8], out: &mut [u8], work: &mut [u64], results: &mut [u64; 3]) -> u32 {
+    let [bytes, cost, nodes] = results;
+    // SAFETY: each slice is passed as its own pointer and length, and each result as a pointer to one word.
+    unsafe {
+        claspwillow_compile(
+            context,
+            policy.as_ptr(),
+            policy.len(),
+            out.as_mut_ptr(),
+            out.len(),
+            work.as_mut_ptr(),
+            work.len(),
+            bytes,
+            cost,
+            nodes,
+        )
+    }
 }
 
 /// One rule on candidates given as words (crate `probe`): its number, and what it left in `out`.

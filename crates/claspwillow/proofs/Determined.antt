@@ -1,7 +1,17 @@
 -- Each promise determines its outcome. Assumes nothing.
 use mathlib.Core.Path.{_≡_, sym, _∙_}
-use Rattle.claspwillow.specs.Promises.{CheckPromise, CheckDetermined}
+use Rattle.claspwillow.specs.Promises.{CheckPromise, CheckDetermined, CompilePromise, CompileDetermined}
 
 pub check-determined : CheckDetermined
 check-determined context tree work number number′ ty ty′ after after′ p q =
     (p .gives ∙ sym (q .gives), p .types ∙ sym (q .types), p .clears ∙ sym (q .clears))
+
+pub compile-determined : CompileDetermined
+compile-determined context policy out work number number′ left left′ bytes bytes′ cost cost′ nodes nodes′ after after′ p q = (
+  p .gives ∙ sym (q .gives),
+  p .writes ∙ sym (q .writes),
+  p .counts ∙ sym (q .counts),
+  p .costs ∙ sym (q .costs),
+  p .uses ∙ sym (q .uses),
+  p .clears ∙ sym (q .clears),
+)

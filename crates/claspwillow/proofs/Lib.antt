@@ -1,2 +1,3 @@
 -- Why the entries keep their promises.
 pub mod Determined
+pub mod Outcomes

@@ -3,10 +3,26 @@
 // Each entry has a promise in specs/Promises.antt, which its contract cites; proofs/Determined.antt shows that any two outcomes that a
 // promise allows are equal.
 ghost use mathlib.Core.Path.{_≡_};
+ghost use lib.Dec.{eqb};
+ghost use lib.ListN.{length};
+ghost use Rattle.memory.specs.Layout.{workWords};
 ghost use Rattle.trees.specs.Reading.{maxRecords};
 ghost use Rattle.trees.specs.Checked.{answerOf};
-ghost use Rattle.claspwillow.specs.Promises.{numberOf, typeNumber, CheckPromise};
+ghost use Rattle.compilation.specs.Compile as Compile;
+ghost use Rattle.compiling.specs.Answers.{Compiles};
+ghost use Rattle.claspwillow.specs.Results.{givenIn, numberIn, bytesIn, costIn, nodesIn};
+ghost use Rattle.claspwillow.specs.Promises.{numberOf, typeNumber, CheckPromise, CompilePromise};
+use compiling::Answer;
+use terms::Context;
 use trees::Checked;
+
+// The one length of work memory that compile takes, in words.
+const WORK_WORDS: usize = 612_360;
+
+// Document 01's numbers of the two refusals that come before the policy is read.
+const BAD_CONTEXT: u8 = 1;
+
+const BAD_WORK: u8 = 2;
 
 // Document 01's number of an answer of the tree check.
 fn number(r: Checked) -> u32
@@ -57,4 +73,95 @@ pub extern "C" fn claspwillow_check_work() -> usize
     ensures { λ n. ⌜ n ≡ maxRecords ⌝ }
 {
     trees::MAX_RECORDS
+}
+
+// Compiles in a context, where work memory has its one length.
+fn compile_in(context: Context, policy: &[u8], out: &mut [u8], work: &mut [u64]) -> Answer
+    ensures { λ r. ⌜ Compiles (givenIn context (eqb (length (now (work .entry))) workWords) (now (policy .entry)) (length (now (out .entry)))) (now (out .entry)) (now (out .exit)) r ⌝ }
+{
+    if work.len() == WORK_WORDS {
+        return compiling::compile(context, policy, out, work);
+    }
+    Answer::Refused(BAD_WORK)
+}
+
+// Compiles in the context that has the number.
+fn compile_numbered(context: u32, policy: &[u8], out: &mut [u8], work: &mut [u64]) -> Answer
+    ensures { λ r. ⌜ Compiles (Compile.compile context (eqb (length (now (work .entry))) workWords) (now (policy .entry)) (length (now (out .entry)))) (now (out .entry)) (now (out .exit)) r ⌝ }
+{
+    match context {
+        0 => compile_in(Context::Segwitv0, policy, out, work),
+        1 => compile_in(Context::Tap, policy, out, work),
+        _ => Answer::Refused(BAD_CONTEXT),
+    }
+}
+
+// Document 01's number of an answer of compile.
+fn number_of(r: Answer) -> u32
+    ensures { λ n. ⌜ n ≡ numberIn r ⌝ }
+{
+    match r {
+        Answer::Compiled(_, _, _) => 0,
+        Answer::Refused(n) => n as u32,
+    }
+}
+
+// How many bytes an answer of compile wrote, 0 where it is a refusal.
+fn bytes_of(r: Answer) -> u64
+    ensures { λ n. ⌜ n ≡ bytesIn r ⌝ }
+{
+    match r {
+        Answer::Compiled(bytes, _, _) => bytes as u64,
+        Answer::Refused(_) => 0,
+    }
+}
+
+// The bits of the cost of an answer of compile, 0 where it is a refusal.
+fn cost_of(r: Answer) -> u64
+    ensures { λ n. ⌜ n ≡ costIn r ⌝ }
+{
+    match r {
+        Answer::Compiled(_, cost, _) => cost,
+        Answer::Refused(_) => 0,
+    }
+}
+
+// How many nodes an answer of compile used, 0 where it is a refusal.
+fn nodes_of(r: Answer) -> u64
+    ensures { λ n. ⌜ n ≡ nodesIn r ⌝ }
+{
+    match r {
+        Answer::Compiled(_, _, nodes) => nodes as u64,
+        Answer::Refused(_) => 0,
+    }
+}
+
+// Compiles a policy: document 01's number, the records of the tree in `out`, and how many bytes they are, the bits of the tree's cost and the
+// nodes used, all three 0 on a refusal. Work memory is zero afterwards.
+#[no_mangle]
+pub extern "C" fn claspwillow_compile(
+    context: u32,
+    policy: &[u8],
+    out: &mut [u8],
+    work: &mut [u64],
+    bytes: &mut u64,
+    cost: &mut u64,
+    nodes: &mut u64,
+) -> u32
+    ensures { λ n. ⌜ CompilePromise context (now (policy .entry)) (now (out .entry)) (now (work .entry)) n (now (out .exit)) (now (bytes .exit)) (now (cost .exit)) (now (nodes .exit)) (now (work .exit)) ⌝ }
+{
+    let r = compile_numbered(context, policy, out, work);
+    words::clear(work);
+    *bytes = bytes_of(r);
+    *cost = cost_of(r);
+    *nodes = nodes_of(r);
+    number_of(r)
+}
+
+// The one length of work memory that compile takes, in words.
+#[no_mangle]
+pub extern "C" fn claspwillow_compile_work() -> usize
+    ensures { λ n. ⌜ n ≡ workWords ⌝ }
+{
+    WORK_WORDS
 }

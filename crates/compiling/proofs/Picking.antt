@@ -52,7 +52,7 @@ module _ (m : List ℕ) (s : ℕ) {r : Chosen} (h : Chooses m s rootProbs Want.R
         after (cheapest rootProbs isBaseB (slotTable pol m s)) st ≡ cond t (pure (seen pol m e)) (refuse TopLevelNonSafe) st
     goes pol st t taken =
         let safe : seen pol m e .ty .mall .safe ≡ t =
-            ap (λ (y : «Type»). y .mall .safe) (seen-fields pol m e (h .there e is) .ty) ∙ sym tells ∙ taken in
+        ap (λ (y : «Type»). y .mall .safe) (seen-fields pol m e (h .there e is) .ty) ∙ sym tells ∙ taken in
         ap (λ (o : Option Candidate). after o st) (says-as (At e) is pol) ∙ after-some (seen pol m e) st ∙ if-safe (seen pol m e) st t safe
 
     pub safe-picked : b ≡ true → Picks m s (Root.At e)

@@ -70,7 +70,7 @@ module _ {pol m : List ℕ} {e : ℕ} (h : Writable pol m e) (out₀ out : List 
       (Answer.Compiled n cost nodes)
   puts n is {cost} {nodes} c k =
       let price : wordOfFloat (costAt rootProbs (seen pol m e)) ≡ cost =
-          ap wordOfFloat (seen-price pol m rootProbs e (h .readable .there)) ∙ sym c in
+      ap wordOfFloat (seen-price pol m rootProbs e (h .readable .there)) ∙ sym c in
       subst (λ (x : ℕ). Compiles (fitting (length out₀) (seen pol m e .tree) x (nodeCount m)) out₀ out (Answer.Compiled n cost nodes)) (sym price)
       (subst (λ (x : ℕ). Compiles (fitting (length out₀) (seen pol m e .tree) cost x) out₀ out (Answer.Compiled n cost nodes)) k
       (put-all (seen pol m e .tree) out₀ out cost nodes (subst (λ (x : Written). Wrote (seen pol m e .tree) out₀ out x) is wrote)))
@@ -97,7 +97,7 @@ module _ (c : Context) (pol : List ℕ) (root : ℕ) {r : Root} {m : List ℕ} (
       let there : e < nodeCount m = subst (λ (x : Root). IsRoot m x) is (f .there) in
       let well = bestCompilation-keeps c (policyAt pol root) (w .formed) .from (state 0 []) (start-proper c) in
       let root-well : RootWell c (seen pol m e) =
-          gives-it (subst (λ (x : Res Candidate). Gives c (RootWell c) (state 0 []) x) (found-as (Root.At e) is) well) in
+      gives-it (subst (λ (x : Res Candidate). Gives c (RootWell c) (state 0 []) x) (found-as (Root.At e) is) well) in
       record {
         readable = record { holds = f .holds; good = w .classed .good; there = there };
         formed = root-well .entry .good .formed;

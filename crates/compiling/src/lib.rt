@@ -113,7 +113,13 @@ fn put(pol: &[u64], work: &[u64], e: u16, out: &mut [u8]) -> Answer
 }
 
 // Compiles the policy of number root.
-fn compile_root(context: Context, pol: &[u64], work: &mut [u64], root: usize, out: &mut [u8]) -> Answer
+fn compile_root(
+    context: Context,
+    pol: &[u64],
+    work: &mut [u64],
+    root: usize,
+    out: &mut [u8],
+) -> Answer
     requires { ⌜ Whole (now pol) root × (length (now work) ≡ workWords) ⌝ }
     ensures { λ r. ⌜ Compiles (compilePolicy context (length (now (out .entry))) (policyAt (now (pol .entry)) root)) (now (out .entry)) (now (out .exit)) r ⌝ }
     ensures { λ _. ⌜ length (now (work .exit)) ≡ workWords ⌝ }

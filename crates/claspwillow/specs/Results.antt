@@ -1,0 +1,31 @@
+-- What the parts of compile's entry hand on: what one context gives, and the numbers in an answer of the crate compiling (document 01,
+-- "Numbers the console shows").
+use mathlib.Core.Bool.{Bool, cond}
+use mathlib.Core.List.{List}
+use Prim.Native.Nat.{ℕ}
+use Rattle.terms.specs.declared.Context.{Context}
+use Rattle.policies.specs.Reading.{readPolicy}
+use Rattle.compilation.specs.Refusals.{BadWork}
+use Rattle.compilation.specs.Compile.{Outcome, refusedWith, compileRead}
+use Rattle.compiling.specs.declared.Answer.{Answer}
+use Rattle.compiling.specs.declared.Answer.the-variants.{Compiled, Refused}
+
+-- what a context gives, which is known by now
+abbrev pub givenIn : Context → (workFits : Bool) → (policy : List ℕ) → (room : ℕ) → Outcome
+givenIn c workFits policy room = cond workFits (compileRead c room (readPolicy policy)) (refusedWith BadWork)
+
+abbrev pub numberIn : Answer → ℕ
+numberIn (Compiled bytes cost nodes) = 0
+numberIn (Refused n) = n
+
+abbrev pub bytesIn : Answer → ℕ
+bytesIn (Compiled bytes cost nodes) = bytes
+bytesIn (Refused n) = 0
+
+abbrev pub costIn : Answer → ℕ
+costIn (Compiled bytes cost nodes) = cost
+costIn (Refused n) = 0
+
+abbrev pub nodesIn : Answer → ℕ
+nodesIn (Compiled bytes cost nodes) = nodes
+nodesIn (Refused n) = 0
