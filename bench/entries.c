@@ -1,22 +1,33 @@
-/* Calls the entries as a C program does, through the header: document 01's whole case is a well-typed tree. */
+/* Calls the entries as a C program does, through the header: document 01's whole case is compiled, and its tree checked. */
 #include <stdio.h>
 #include <stdlib.h>
 
 #include "claspwillow.h"
 
 int main(void) {
-    static const uint8_t tree[] = {0x08, 0x00, 0x22, 0x00, 0x07, 0x00, 0x00, 0x00, 0x06, 0x00, 0x2C, 0x00, 0x00, 0x00};
-    const size_t words = claspwillow_check_work();
-    uint64_t *work = malloc(words * sizeof *work);
-    uint32_t ty = 0;
-    uint32_t number;
+    static const uint8_t policy[] = {0x08, 0x00, 0x03, 0x00, 0x07, 0x00, 0x00, 0x00};
+    const size_t compile_words = claspwillow_compile_work();
+    const size_t check_words = claspwillow_check_work();
+    uint64_t *work = malloc(compile_words * sizeof *work);
+    uint8_t tree[64];
+    uint64_t bytes, cost, nodes, i;
+    uint32_t number, ty;
 
     if (work == NULL) {
         fputs("entries: no memory\n", stderr);
         return 1;
     }
-    number = claspwillow_check(CLASPWILLOW_SEGWIT_V0, tree, sizeof tree, work, words, &ty);
+    number = claspwillow_compile(CLASPWILLOW_SEGWIT_V0, policy, sizeof policy, tree, sizeof tree, work, compile_words, &bytes, &cost, &nodes);
+    printf("the whole case: number %u, tree", (unsigned)number);
+    for (i = 0; i < bytes; i++) {
+        printf(" %02X", (unsigned)tree[i]);
+    }
+    printf(", cost bits %016llX, %u nodes", (unsigned long long)cost, (unsigned)nodes);
+    if (number == CLASPWILLOW_DONE) {
+        number = claspwillow_check(CLASPWILLOW_SEGWIT_V0, tree, (size_t)bytes, work, check_words, &ty);
+        printf("; its check: number %u, type %u", (unsigned)number, (unsigned)ty);
+    }
+    putchar('\n');
     free(work);
-    printf("the whole case: number %u, type %u\n", (unsigned)number, (unsigned)ty);
     return number == CLASPWILLOW_DONE ? 0 : 1;
 }
