@@ -1,8 +1,7 @@
 -- What an answer of compile tells of what its definition gives: by its context, and by each of its numbers. Assumes nothing.
 use mathlib.Core.List.{List, _++_}
-use mathlib.Core.Path.{_≡_, refl, sym, ap, subst, _∙_}
+use mathlib.Core.Path.{_≡_, sym, ap, subst, _∙_}
 use Prim.Native.Nat.{ℕ}
-use lib.Dec.{eqb}
 use lib.ListN.{length, drop, replicate}
 use borrow.Author.Tests.{eq-eqb, ne-eqb}
 use Rattle.words.specs.Memory.{zeroed}
@@ -13,7 +12,6 @@ use Rattle.policies.specs.Reading.{readPolicy}
 use Rattle.compilation.specs.Refusals.{BadContext, BadWork}
 use Rattle.compilation.specs.Compile.{Outcome, refusedWith, compileRead, compile}
 use Rattle.compiling.specs.declared.Answer.{Answer}
-use Rattle.compiling.specs.declared.Answer.the-variants as Answer
 use Rattle.compiling.specs.Answers.{Compiles, compiles, refuses}
 use Rattle.claspwillow.specs.Results.{givenIn, numberIn, bytesIn, costIn, nodesIn}
 use Rattle.claspwillow.specs.Promises.{numberOfOutcome, outputAfter, bytesWritten, costGiven, nodesUsed, given, CompilePromise}
@@ -25,17 +23,17 @@ retold {o} {o′} {out} {left} {r} e h = subst (λ (x : Outcome). Compiles x out
 
 module _ (policy out work : List ℕ) where
   pub fits : (c : Context) → length work ≡ workWords
-      → compileRead c (length out) (readPolicy policy) ≡ givenIn c (eqb (length work) workWords) policy (length out)
+      → compileRead c (length out) (readPolicy policy) ≡ givenIn c policy out work
   fits c w = rw (eq-eqb (length work) workWords w)
 
-  pub bad-work : (c : Context) → (length work ≡ workWords → ⊥) → givenIn c (eqb (length work) workWords) policy (length out) ≡ refusedWith BadWork
+  pub bad-work : (c : Context) → (length work ≡ workWords → ⊥) → givenIn c policy out work ≡ refusedWith BadWork
   bad-work c w = rw (ne-eqb (length work) workWords w)
 
-  pub segwit : (context : ℕ) → context ≡ 0 → givenIn Segwitv0 (eqb (length work) workWords) policy (length out) ≡ given context policy out work
+  pub segwit : (context : ℕ) → context ≡ 0 → givenIn Segwitv0 policy out work ≡ given context policy out work
   unfolding compile
   segwit context e = rw e
 
-  pub tap : (context : ℕ) → context ≡ 1 → givenIn Tap (eqb (length work) workWords) policy (length out) ≡ given context policy out work
+  pub tap : (context : ℕ) → context ≡ 1 → givenIn Tap policy out work ≡ given context policy out work
   unfolding compile
   tap context e = rw e
 

@@ -1,18 +1,24 @@
 -- What the parts of compile's entry hand on: what one context gives, and the numbers in an answer of the crate compiling (document 01,
 -- "Numbers the console shows").
-use mathlib.Core.Bool.{Bool, cond}
+use mathlib.Core.Bool.{cond}
 use mathlib.Core.List.{List}
 use Prim.Native.Nat.{ℕ}
+use lib.Dec.{eqb}
+use lib.ListN.{length}
 use Rattle.terms.specs.declared.Context.{Context}
+use Rattle.memory.specs.Layout.{workWords}
 use Rattle.policies.specs.Reading.{readPolicy}
 use Rattle.compilation.specs.Refusals.{BadWork}
 use Rattle.compilation.specs.Compile.{Outcome, refusedWith, compileRead}
 use Rattle.compiling.specs.declared.Answer.{Answer}
 use Rattle.compiling.specs.declared.Answer.the-variants.{Compiled, Refused}
 
--- what a context gives, which is known by now
-abbrev pub givenIn : Context → (workFits : Bool) → (policy : List ℕ) → (room : ℕ) → Outcome
-givenIn c workFits policy room = cond workFits (compileRead c room (readPolicy policy)) (refusedWith BadWork)
+-- what compile gives in a context, for a policy, an output and work memory
+abbrev pub givenIn : Context → (policy out work : List ℕ) → Outcome
+givenIn c policy out work =
+    cond (eqb (length work) workWords) (compileRead c (length out) (readPolicy policy)) (refusedWith BadWork)
+
+-- ---- the numbers in an answer
 
 abbrev pub numberIn : Answer → ℕ
 numberIn (Compiled bytes cost nodes) = 0

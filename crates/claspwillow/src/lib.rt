@@ -1,17 +1,14 @@
 // The public entries of Claspwillow, exported to C. None asks anything of its caller.
 //
 // Each entry has a promise in specs/Promises.antt, which its contract cites; proofs/Determined.antt shows that any two outcomes that a
-// promise allows are equal.
+// promise allows are equal. The parts of compile's entry cite specs/Results.antt.
 ghost use mathlib.Core.Path.{_≡_};
-ghost use lib.Dec.{eqb};
-ghost use lib.ListN.{length};
 ghost use Rattle.memory.specs.Layout.{workWords};
 ghost use Rattle.trees.specs.Reading.{maxRecords};
 ghost use Rattle.trees.specs.Checked.{answerOf};
-ghost use Rattle.compilation.specs.Compile as Compile;
 ghost use Rattle.compiling.specs.Answers.{Compiles};
 ghost use Rattle.claspwillow.specs.Results.{givenIn, numberIn, bytesIn, costIn, nodesIn};
-ghost use Rattle.claspwillow.specs.Promises.{numberOf, typeNumber, CheckPromise, CompilePromise};
+ghost use Rattle.claspwillow.specs.Promises.{numberOf, typeNumber, CheckPromise, given, CompilePromise};
 use compiling::Answer;
 use terms::Context;
 use trees::Checked;
@@ -23,6 +20,9 @@ const WORK_WORDS: usize = 612_360;
 const BAD_CONTEXT: u8 = 1;
 
 const BAD_WORK: u8 = 2;
+
+// What a refusal gives in place of the bytes written, the cost and the nodes used.
+const NOT_GIVEN: u64 = 0;
 
 // Document 01's number of an answer of the tree check.
 fn number(r: Checked) -> u32
@@ -77,7 +77,7 @@ pub extern "C" fn claspwillow_check_work() -> usize
 
 // Compiles in a context, where work memory has its one length.
 fn compile_in(context: Context, policy: &[u8], out: &mut [u8], work: &mut [u64]) -> Answer
-    ensures { λ r. ⌜ Compiles (givenIn context (eqb (length (now (work .entry))) workWords) (now (policy .entry)) (length (now (out .entry)))) (now (out .entry)) (now (out .exit)) r ⌝ }
+    ensures { λ r. ⌜ Compiles (givenIn context (now (policy .entry)) (now (out .entry)) (now (work .entry))) (now (out .entry)) (now (out .exit)) r ⌝ }
 {
     if work.len() == WORK_WORDS {
         return compiling::compile(context, policy, out, work);
@@ -87,7 +87,7 @@ fn compile_in(context: Context, policy: &[u8], out: &mut [u8], work: &mut [u64])
 
 // Compiles in the context that has the number.
 fn compile_numbered(context: u32, policy: &[u8], out: &mut [u8], work: &mut [u64]) -> Answer
-    ensures { λ r. ⌜ Compiles (Compile.compile context (eqb (length (now (work .entry))) workWords) (now (policy .entry)) (length (now (out .entry)))) (now (out .entry)) (now (out .exit)) r ⌝ }
+    ensures { λ r. ⌜ Compiles (given context (now (policy .entry)) (now (out .entry)) (now (work .entry))) (now (out .entry)) (now (out .exit)) r ⌝ }
 {
     match context {
         0 => compile_in(Context::Segwitv0, policy, out, work),
@@ -112,7 +112,7 @@ fn bytes_of(r: Answer) -> u64
 {
     match r {
         Answer::Compiled(bytes, _, _) => bytes as u64,
-        Answer::Refused(_) => 0,
+        Answer::Refused(_) => NOT_GIVEN,
     }
 }
 
@@ -122,7 +122,7 @@ fn cost_of(r: Answer) -> u64
 {
     match r {
         Answer::Compiled(_, cost, _) => cost,
-        Answer::Refused(_) => 0,
+        Answer::Refused(_) => NOT_GIVEN,
     }
 }
 
@@ -132,7 +132,7 @@ fn nodes_of(r: Answer) -> u64
 {
     match r {
         Answer::Compiled(_, _, nodes) => nodes as u64,
-        Answer::Refused(_) => 0,
+        Answer::Refused(_) => NOT_GIVEN,
     }
 }
 
