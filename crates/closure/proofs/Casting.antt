@@ -7,7 +7,7 @@ use native.Mathlib.Numerals.{add-one}
 use native.Mathlib.Omega.{arith}
 use lib.ListN.{drop}
 use Rattle.terms.specs.declared.Context.{Context}
-use Rattle.compilation.specs.Candidates.{Candidate, Cast, allCasts}
+use Rattle.compilation.specs.Candidates.{Candidate, Cast, allCasts, castNo}
 use Rattle.compilation.specs.Tables.{Probs}
 use Rattle.compilation.specs.Refusals.{Stored, Res, M, then}
 use Rattle.compilation.specs.Insertion.{Queued, offer, castAll}
@@ -23,7 +23,7 @@ use Rattle.table.specs.Inserted.{stateOf, Extends}
 use Rattle.closure.specs.declared.End.{End}
 use Rattle.closure.specs.declared.End.the-variants.{Done, Refused}
 use Rattle.closure.specs.declared.Closed.{Closed}
-use Rattle.closure.specs.Closed.{castNo, answer, OfferedCast, OfferedCasts}
+use Rattle.closure.specs.Closed.{answer, OfferedCast, OfferedCasts}
 use Rattle.closure.proofs.Waiting.{queueAt}
 use Rattle.table.proofs.Kept.{extends-refl, extends-trans}
 use Rattle.closure.proofs.Offering.{closed}

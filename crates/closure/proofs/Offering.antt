@@ -9,7 +9,7 @@ use Rattle.candidates.specs.declared.Candidate as code
 use Rattle.candidates.specs.declared.CastResult.{CastResult}
 use Rattle.candidates.specs.declared.CastResult.the-variants.{Cast}
 use Rattle.candidates.specs.Casts.{castOf}
-use Rattle.compilation.specs.Candidates.{Candidate}
+use Rattle.compilation.specs.Candidates.{Candidate, castNo}
 use Rattle.compilation.specs.Tables.{Probs}
 use Rattle.compilation.specs.Refusals.{State, Stored, done, refused, pure}
 use Rattle.compilation.specs.Insertion.{queued, joins, offer}
@@ -29,7 +29,7 @@ use Rattle.table.specs.Inserted.{stateOf, seenTable, offerAnswer, NextNode, Ins
 use Rattle.closure.specs.declared.End.{End}
 use Rattle.closure.specs.declared.End.the-variants.{Done, Refused}
 use Rattle.closure.specs.declared.Closed.{Closed}
-use Rattle.closure.specs.Closed.{waiting, castNo, OfferedCast}
+use Rattle.closure.specs.Closed.{waiting, OfferedCast}
 use Rattle.closure.proofs.Waiting.{queueAt, waiting-same, waiting-more}
 use Rattle.table.proofs.Kept.{extends-refl}
 

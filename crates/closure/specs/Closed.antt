@@ -1,13 +1,12 @@
 -- What the closure of casts leaves, by its definition (compilation, specs/Insertion.antt) on what nodes stand for. Acceptances take nodes one after
 -- another, so the candidates that wait are the nodes from some number on. Assumes nothing.
 use mathlib.Core.List.{List, [], _∷_}
-use mathlib.Core.Option.{none}
 use mathlib.Core.Path.{_≡_}
 use Prim.Native.Nat.{ℕ, zero, suc, _-_, _≤_}
-use lib.ListN.{getD}
 use Rattle.terms.specs.declared.Context.{Context}
 use Rattle.candidates.specs.declared.Candidate as code
-use Rattle.compilation.specs.Candidates.{Cast, allCasts}
+use Rattle.compilation.specs.Candidates.{allCasts}
+pub use Rattle.compilation.specs.Candidates.{castNo}
 use Rattle.compilation.specs.Tables as definition
 use Rattle.compilation.specs.Tables.{Probs}
 use Rattle.compilation.specs.Refusals.{State, Stored, Res, done, refused}
@@ -29,10 +28,6 @@ numbersFrom h (suc n) = h ∷ numbersFrom (suc h) n
 -- the nodes from h on wait to be cast
 abbrev pub waiting : (pol m : List ℕ) → (h : ℕ) → definition.Table
 waiting pol m h = seenAll pol m (numbersFrom h (nodeCount m - h))
-
--- the cast of a number
-abbrev pub castNo : ℕ → Cast
-castNo n = getD allCasts n (λ x. none)
 
 abbrev pub answer : {A : Type 0} → End → A → State → Res A
 answer Done a s = done a s

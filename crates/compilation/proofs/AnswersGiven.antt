@@ -6,8 +6,9 @@ use Rattle.words.specs.Bytes.{bytesOf, little, leAt}
 use Rattle.records.specs.Numbers.{u16s, u32s}
 use Rattle.records.specs.Shapes.{shapeOf, lookUp}
 use Rattle.records.specs.Payloads.{payloadOf}
+use Rattle.policies.specs.Policy as policies
 use Rattle.policies.specs.Policy.{depth, deepest, fromList}
-use Rattle.policies.specs.Forms.{made}
+use Rattle.policies.specs.Forms.{made, kindOf, numberOf, kOf, leftWeightOf, rightWeightOf, childrenOf}
 use Rattle.policies.specs.Reading.{without, readWhole, readRecord, rootOf, finish, readFrom, readPolicy}
 use Rattle.figures.specs.Rules as ext
 use Rattle.figures.specs.Validity.{fromAst, checkGlobalValidity, checkLocalValidity}
@@ -51,7 +52,8 @@ both-right (x ∷ xs) ys p q = and-intro (right x) (allRight (xs ++ ys)) (and-le
 right-a : allRight part-a ≡ true
 unfolding allRight part-a hexOnto sameBytes compile compilePolicy bestCompilation
     little leAt bytesOf u16s u32s shapeOf lookUp payloadOf made fromList without readWhole readRecord rootOf finish readFrom readPolicy depth deepest
-    searcher searchers searching remembering lookup same sameAll then forEach castsOf wrapped cheapest
+    searcher searchers searching remembering lookup then forEach castsOf wrapped cheapest
+    same sameAll kindOf numberOf kOf leftWeightOf rightWeightOf childrenOf policies.toList
     insertClosure closure castAll insert any filter enter cost1d inRow toList nodeOf nodesOf count counts owns written writtenAll
     checkLocalValidity checkGlobalValidity fromAst ext.falseExt ext.trueExt ext.pkK ext.pkH ext.multi ext.multiA
     ext.sha256 ext.hash256 ext.ripemd160 ext.hash160 ext.after ext.older ext.castAlt ext.castSwap ext.castCheck
@@ -66,7 +68,8 @@ right-a = refl
 right-b : allRight part-b ≡ true
 unfolding allRight part-b hexOnto sameBytes compile compilePolicy bestCompilation
     little leAt bytesOf u16s u32s shapeOf lookUp payloadOf made fromList without readWhole readRecord rootOf finish readFrom readPolicy depth deepest
-    searcher searchers searching remembering lookup same sameAll then forEach castsOf wrapped cheapest
+    searcher searchers searching remembering lookup then forEach castsOf wrapped cheapest
+    same sameAll kindOf numberOf kOf leftWeightOf rightWeightOf childrenOf policies.toList
     insertClosure closure castAll insert any filter enter cost1d inRow toList nodeOf nodesOf count counts owns written writtenAll
     checkLocalValidity checkGlobalValidity fromAst ext.falseExt ext.trueExt ext.pkK ext.pkH ext.multi ext.multiA
     ext.sha256 ext.hash256 ext.ripemd160 ext.hash160 ext.after ext.older ext.castAlt ext.castSwap ext.castCheck
@@ -81,7 +84,8 @@ right-b = refl
 right-c : allRight part-c ≡ true
 unfolding allRight part-c hexOnto sameBytes compile compilePolicy bestCompilation
     little leAt bytesOf u16s u32s shapeOf lookUp payloadOf made fromList without readWhole readRecord rootOf finish readFrom readPolicy depth deepest
-    searcher searchers searching remembering lookup same sameAll then forEach castsOf wrapped cheapest
+    searcher searchers searching remembering lookup then forEach castsOf wrapped cheapest
+    same sameAll kindOf numberOf kOf leftWeightOf rightWeightOf childrenOf policies.toList
     insertClosure closure castAll insert any filter enter cost1d inRow toList nodeOf nodesOf count counts owns written writtenAll
     checkLocalValidity checkGlobalValidity fromAst ext.falseExt ext.trueExt ext.pkK ext.pkH ext.multi ext.multiA
     ext.sha256 ext.hash256 ext.ripemd160 ext.hash160 ext.after ext.older ext.castAlt ext.castSwap ext.castCheck
@@ -96,7 +100,8 @@ right-c = refl
 right-d : allRight part-d ≡ true
 unfolding allRight part-d hexOnto sameBytes compile compilePolicy bestCompilation
     little leAt bytesOf u16s u32s shapeOf lookUp payloadOf made fromList without readWhole readRecord rootOf finish readFrom readPolicy depth deepest
-    searcher searchers searching remembering lookup same sameAll then forEach castsOf wrapped cheapest
+    searcher searchers searching remembering lookup then forEach castsOf wrapped cheapest
+    same sameAll kindOf numberOf kOf leftWeightOf rightWeightOf childrenOf policies.toList
     insertClosure closure castAll insert any filter enter cost1d inRow toList nodeOf nodesOf count counts owns written writtenAll
     checkLocalValidity checkGlobalValidity fromAst ext.falseExt ext.trueExt ext.pkK ext.pkH ext.multi ext.multiA
     ext.sha256 ext.hash256 ext.ripemd160 ext.hash160 ext.after ext.older ext.castAlt ext.castSwap ext.castCheck
@@ -111,7 +116,8 @@ right-d = refl
 right-e : allRight part-e ≡ true
 unfolding allRight part-e hexOnto sameBytes compile compilePolicy bestCompilation
     little leAt bytesOf u16s u32s shapeOf lookUp payloadOf made fromList without readWhole readRecord rootOf finish readFrom readPolicy depth deepest
-    searcher searchers searching remembering lookup same sameAll then forEach castsOf wrapped cheapest
+    searcher searchers searching remembering lookup then forEach castsOf wrapped cheapest
+    same sameAll kindOf numberOf kOf leftWeightOf rightWeightOf childrenOf policies.toList
     insertClosure closure castAll insert any filter enter cost1d inRow toList nodeOf nodesOf count counts owns written writtenAll
     checkLocalValidity checkGlobalValidity fromAst ext.falseExt ext.trueExt ext.pkK ext.pkH ext.multi ext.multiA
     ext.sha256 ext.hash256 ext.ripemd160 ext.hash160 ext.after ext.older ext.castAlt ext.castSwap ext.castCheck
@@ -126,7 +132,8 @@ right-e = refl
 right-f : allRight part-f ≡ true
 unfolding allRight part-f hexOnto sameBytes compile compilePolicy bestCompilation
     little leAt bytesOf u16s u32s shapeOf lookUp payloadOf made fromList without readWhole readRecord rootOf finish readFrom readPolicy depth deepest
-    searcher searchers searching remembering lookup same sameAll then forEach castsOf wrapped cheapest
+    searcher searchers searching remembering lookup then forEach castsOf wrapped cheapest
+    same sameAll kindOf numberOf kOf leftWeightOf rightWeightOf childrenOf policies.toList
     insertClosure closure castAll insert any filter enter cost1d inRow toList nodeOf nodesOf count counts owns written writtenAll
     checkLocalValidity checkGlobalValidity fromAst ext.falseExt ext.trueExt ext.pkK ext.pkH ext.multi ext.multiA
     ext.sha256 ext.hash256 ext.ripemd160 ext.hash160 ext.after ext.older ext.castAlt ext.castSwap ext.castCheck
@@ -141,7 +148,8 @@ right-f = refl
 right-g : allRight part-g ≡ true
 unfolding allRight part-g hexOnto sameBytes compile compilePolicy bestCompilation
     little leAt bytesOf u16s u32s shapeOf lookUp payloadOf made fromList without readWhole readRecord rootOf finish readFrom readPolicy depth deepest
-    searcher searchers searching remembering lookup same sameAll then forEach castsOf wrapped cheapest
+    searcher searchers searching remembering lookup then forEach castsOf wrapped cheapest
+    same sameAll kindOf numberOf kOf leftWeightOf rightWeightOf childrenOf policies.toList
     insertClosure closure castAll insert any filter enter cost1d inRow toList nodeOf nodesOf count counts owns written writtenAll
     checkLocalValidity checkGlobalValidity fromAst ext.falseExt ext.trueExt ext.pkK ext.pkH ext.multi ext.multiA
     ext.sha256 ext.hash256 ext.ripemd160 ext.hash160 ext.after ext.older ext.castAlt ext.castSwap ext.castCheck
@@ -156,7 +164,8 @@ right-g = refl
 right-h : allRight part-h ≡ true
 unfolding allRight part-h hexOnto sameBytes compile compilePolicy bestCompilation
     little leAt bytesOf u16s u32s shapeOf lookUp payloadOf made fromList without readWhole readRecord rootOf finish readFrom readPolicy depth deepest
-    searcher searchers searching remembering lookup same sameAll then forEach castsOf wrapped cheapest
+    searcher searchers searching remembering lookup then forEach castsOf wrapped cheapest
+    same sameAll kindOf numberOf kOf leftWeightOf rightWeightOf childrenOf policies.toList
     insertClosure closure castAll insert any filter enter cost1d inRow toList nodeOf nodesOf count counts owns written writtenAll
     checkLocalValidity checkGlobalValidity fromAst ext.falseExt ext.trueExt ext.pkK ext.pkH ext.multi ext.multiA
     ext.sha256 ext.hash256 ext.ripemd160 ext.hash160 ext.after ext.older ext.castAlt ext.castSwap ext.castCheck
@@ -171,7 +180,8 @@ right-h = refl
 right-i : allRight part-i ≡ true
 unfolding allRight part-i hexOnto sameBytes compile compilePolicy bestCompilation
     little leAt bytesOf u16s u32s shapeOf lookUp payloadOf made fromList without readWhole readRecord rootOf finish readFrom readPolicy depth deepest
-    searcher searchers searching remembering lookup same sameAll then forEach castsOf wrapped cheapest
+    searcher searchers searching remembering lookup then forEach castsOf wrapped cheapest
+    same sameAll kindOf numberOf kOf leftWeightOf rightWeightOf childrenOf policies.toList
     insertClosure closure castAll insert any filter enter cost1d inRow toList nodeOf nodesOf count counts owns written writtenAll
     checkLocalValidity checkGlobalValidity fromAst ext.falseExt ext.trueExt ext.pkK ext.pkH ext.multi ext.multiA
     ext.sha256 ext.hash256 ext.ripemd160 ext.hash160 ext.after ext.older ext.castAlt ext.castSwap ext.castCheck
@@ -186,7 +196,8 @@ right-i = refl
 right-j : allRight part-j ≡ true
 unfolding allRight part-j hexOnto sameBytes compile compilePolicy bestCompilation
     little leAt bytesOf u16s u32s shapeOf lookUp payloadOf made fromList without readWhole readRecord rootOf finish readFrom readPolicy depth deepest
-    searcher searchers searching remembering lookup same sameAll then forEach castsOf wrapped cheapest
+    searcher searchers searching remembering lookup then forEach castsOf wrapped cheapest
+    same sameAll kindOf numberOf kOf leftWeightOf rightWeightOf childrenOf policies.toList
     insertClosure closure castAll insert any filter enter cost1d inRow toList nodeOf nodesOf count counts owns written writtenAll
     checkLocalValidity checkGlobalValidity fromAst ext.falseExt ext.trueExt ext.pkK ext.pkH ext.multi ext.multiA
     ext.sha256 ext.hash256 ext.ripemd160 ext.hash160 ext.after ext.older ext.castAlt ext.castSwap ext.castCheck
@@ -201,7 +212,8 @@ right-j = refl
 right-k : allRight part-k ≡ true
 unfolding allRight part-k hexOnto sameBytes compile compilePolicy bestCompilation
     little leAt bytesOf u16s u32s shapeOf lookUp payloadOf made fromList without readWhole readRecord rootOf finish readFrom readPolicy depth deepest
-    searcher searchers searching remembering lookup same sameAll then forEach castsOf wrapped cheapest
+    searcher searchers searching remembering lookup then forEach castsOf wrapped cheapest
+    same sameAll kindOf numberOf kOf leftWeightOf rightWeightOf childrenOf policies.toList
     insertClosure closure castAll insert any filter enter cost1d inRow toList nodeOf nodesOf count counts owns written writtenAll
     checkLocalValidity checkGlobalValidity fromAst ext.falseExt ext.trueExt ext.pkK ext.pkH ext.multi ext.multiA
     ext.sha256 ext.hash256 ext.ripemd160 ext.hash160 ext.after ext.older ext.castAlt ext.castSwap ext.castCheck

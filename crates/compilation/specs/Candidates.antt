@@ -3,7 +3,8 @@ use mathlib.Core.Bool.{Bool, true, false, cond}
 use mathlib.Core.List.{List, [], _∷_, map}
 use mathlib.Core.Option.{Option, none, some}
 use Prim.Native.Nat.{ℕ}
-use lib.ListN.{length}
+use lib.Dec.{eqb}
+use lib.ListN.{length, getD}
 use lib.Ieee.{Float}
 use Rattle.terms.specs.declared.Context.{Context}
 use Rattle.terms.specs.declared.Context.the-variants.{Segwitv0, Tap}
@@ -148,6 +149,10 @@ allCasts =
     castCheck ∷ castDupif ∷ castLikely ∷ castUnlikely ∷ castVerify
     ∷ castNonzero ∷ castTrue ∷ castSwap ∷ castAlt ∷ castZeronotequal ∷ []
 
+-- the cast of a number, 0 for the first; from 10 on there is none
+abbrev pub castNo : ℕ → Cast
+castNo n = getD allCasts n (λ x. none)
+
 -- ---- pairs, triples and thresholds
 
 -- what putting candidates together gives: nothing where they are ill-typed, which is seen before they are costed
@@ -191,6 +196,17 @@ orC lw rw l r =
 abbrev pub orI : Pair
 orI lw rw l r =
     madeAs (type.orI (l .ty) (r .ty)) (OrI (l .tree) (r .tree)) (ext.orI (l .ext) (r .ext)) (Costed.Cost (cost.orI (l .cost) (r .cost) lw rw))
+
+-- the pair of a kind's number: document 01, "Records"; of any other number all is passed over
+abbrev pub pairNo : ℕ → Pair
+pairNo kind =
+    cond (eqb kind 49) andB
+    (cond (eqb kind 50) andV
+    (cond (eqb kind 51) orB
+    (cond (eqb kind 52) orD
+    (cond (eqb kind 53) orC
+    (cond (eqb kind 54) orI
+    (λ lw rw l r. passedOver))))))
 
 -- a triple, at the weights of its first two sides and of its third
 abbrev pub andOr : Float → Float → Candidate → Candidate → Candidate → Made

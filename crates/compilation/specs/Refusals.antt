@@ -8,8 +8,7 @@ use lib.ListN.{length}
 use lib.Ieee.{Float, eq}
 use Rattle.policies.specs.Policy.{Policy}
 use Rattle.compilation.specs.SamePolicy.{same}
-use Rattle.costs.specs.declared.DissatProb.{DissatProb}
-use Rattle.costs.specs.declared.DissatProb.the-variants as Prob
+use Rattle.costs.specs.Probabilities.{sameProb}
 use Rattle.compilation.specs.Tables.{Probs, Table}
 
 -- ---- the numbers and the limits
@@ -101,12 +100,6 @@ abbrev pub accept : M (Unit {0})
 accept s = cond (leb (suc (s .accepted)) maxAccepted) (done tt (state (suc (s .accepted)) (s .stored))) (refused NodesFull)
 
 -- ---- what is remembered
-
-abbrev pub sameProb : DissatProb → DissatProb → Bool
-sameProb (Prob.Some p) (Prob.Some q) = eq p q
-sameProb (Prob.Some p) Prob.None = false
-sameProb Prob.None (Prob.Some q) = false
-sameProb Prob.None Prob.None = true
 
 abbrev pub sameProbs : Probs → Probs → Bool
 sameProbs p q = eq (p .sat) (q .sat) && sameProb (p .dissat) (q .dissat)

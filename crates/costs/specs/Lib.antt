@@ -2,5 +2,6 @@ pub mod Names
 pub mod Arithmetic
 pub mod Rules
 pub mod Cost1d
+pub mod Probabilities
 pub mod Weights
 pub mod Figures

@@ -3,14 +3,11 @@ use mathlib.Core.Path.{_≡_, refl, ap, sym, subst, _∙_}
 use mathlib.Core.Bool.{Bool, true, false, cond}
 use mathlib.Core.List.{List, [], _∷_}
 use mathlib.Core.Option.{Option, none, some}
-use Prim.Native.Nat.{ℕ, zero, suc, _*_, _^_, _<_, _≤_}
-use native.Mathlib.Nat.{pow-suc}
+use Prim.Native.Nat.{ℕ, zero, suc, _≤_}
 use native.Mathlib.Omega.{arith}
 use borrow.Author.Tests.{eqb-true}
 use lib.Dec.{eqb, leb}
-use lib.ListN.{length, set, take, drop, length-map, length-take}
-use Rattle.words.specs.Bytes.{little, hasBytes, whenRead, leAt}
-use Rattle.records.specs.Numbers.{orZero, u32}
+use lib.ListN.{length, set, take, drop, length-map}
 use Rattle.records.specs.Shapes.{lookUp, shapeOf}
 use Rattle.records.specs.Payloads.{Payload, payloadOf, childrenOf, numberOf, kOf, leftWeightOf, rightWeightOf}
 use Rattle.records.specs.RecordForm.{recordLength, kindOf, policyPayload}
@@ -25,6 +22,7 @@ use Rattle.policies.specs.Reading.{readFrom, readPolicy}
 use Rattle.policies.proofs.Forms.{to-from}
 use Rattle.writing.specs.WellFormed.{AllBelow, IsU32, IsLock, IsThreshold}
 use Rattle.writing.proofs.Kept.{no-some, below-take, below-drop}
+use Rattle.writing.proofs.WellRead.{u32-below}
 use Rattle.laws.specs.FormedPolicy.{FormedPolicy, AllFormed}
 use Rattle.laws.specs.Laws.{All, nobody, _and_, IfSome, noneIs, someIs}
 use Rattle.laws.proofs.Inserting.{all-append}
@@ -103,32 +101,6 @@ those-formed (j ∷ js) h = the-policy (held-at j h) and those-formed js h
 
 as-many : (js : List ℕ) (slots : Slots) → length (those js slots) ≡ length js
 as-many js slots = length-map js (λ j. thePolicy (slot slots j))
-
--- ---- numbers in bytes
-
-little-below : (width : ℕ) (s : List ℕ) → length s ≤ width → AllBelow 256 s → little s < 256 ^ width
-unfolding little AllBelow
-little-below zero [] l h = omega arith
-little-below zero (b ∷ s) l h = absurd (omega arith)
-little-below (suc width) [] l h =
-    let p : 256 ^ suc width ≡ 256 ^ width * 256 = pow-suc 256 width in
-    let q = little-below width [] (omega arith) tt in
-    omega arith
-little-below (suc width) (b ∷ s) l h =
-    let p : 256 ^ suc width ≡ 256 ^ width * 256 = pow-suc 256 width in
-    let q = little-below width s (omega arith) (h .1) in
-    omega arith
-
-u32-below : (s : List ℕ) (at : ℕ) → AllBelow 256 s → IsU32 (u32 s at)
-unfolding leAt
-u32-below s at h = by-room (hasBytes 4 s at)
-  where
-    bytes : List ℕ
-    bytes = take 4 (drop at s)
-
-    by-room : (room : Bool) → IsU32 (orZero (whenRead room (little bytes)))
-    by-room true = little-below 4 bytes (omega (arith, length-take 4 (drop at s))) (below-take 256 4 (drop at s) (below-drop 256 at s h))
-    by-room false = omega arith
 
 -- ---- the policy that a record writes
 

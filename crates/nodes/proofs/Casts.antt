@@ -5,7 +5,7 @@ use mathlib.Core.Bool.{Bool, true, _&&_}
 use mathlib.Core.List.{List, [], _∷_}
 use mathlib.Core.Option.{Option, none, some}
 use Prim.Native.Nat.{ℕ, zero, suc, _<_}
-use lib.ListN.{getD, drop}
+use lib.ListN.{drop}
 use lib.Seq.{drop-cons}
 use Rattle.types.specs.declared.TypeResult.{TypeResult}
 use Rattle.types.specs.declared.TypeResult.the-variants as TypeResult
@@ -14,7 +14,7 @@ use Rattle.costs.specs.declared.Cost.{Cost}
 use Rattle.trees.specs.Fragment.{Fragment, False, True, Alt, Swap, Check, DupIf, Verify, NonZero, ZeroNotEqual, AndV, OrI}
 use Rattle.trees.specs.Tree.{find}
 use Rattle.compilation.specs.Candidates as definition
-use Rattle.compilation.specs.Candidates.{Candidate, typedAs}
+use Rattle.compilation.specs.Candidates.{Candidate, typedAs, castNo}
 use Rattle.candidates.specs.declared.Candidate as code
 use Rattle.candidates.specs.declared.CastResult.{CastResult}
 use Rattle.candidates.specs.declared.CastResult.the-variants.{Cast, IllTyped, Unknown}
@@ -34,10 +34,6 @@ abbrev pub castSeen : (pol m : List ℕ) → CastResult → Option Candidate
 castSeen pol m (Cast y) = some (offered pol m y)
 castSeen pol m IllTyped = none
 castSeen pol m Unknown = none
-
--- the definition's cast of a number, 0 for the first; from 10 on there is none
-abbrev pub castNo : ℕ → definition.Cast
-castNo n = getD definition.allCasts n (λ x. none)
 
 -- each cast in turn
 pub casts-from : (n : ℕ) → n < 10 → drop n definition.allCasts ≡ castNo n ∷ drop (suc n) definition.allCasts

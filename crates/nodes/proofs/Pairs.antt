@@ -18,7 +18,7 @@ use Rattle.costs.specs.Rules as cost
 use Rattle.trees.specs.Fragment.{Fragment, AndB, AndV, OrB, OrD, OrC, OrI, AndOr}
 use Rattle.trees.specs.Tree.{find}
 use Rattle.compilation.specs.Candidates as definition
-use Rattle.compilation.specs.Candidates.{Candidate}
+use Rattle.compilation.specs.Candidates.{Candidate, Pair, pairNo}
 use Rattle.candidates.specs.declared.Candidate as code
 use Rattle.candidates.specs.declared.Made.{Made}
 use Rattle.candidates.specs.declared.Made.the-variants as Made
@@ -32,16 +32,6 @@ use Rattle.nodes.specs.Answers.{Holds}
 use Rattle.nodes.specs.Offers.{Offerable, madeSeen}
 use Rattle.nodes.proofs.Seen.{Shows, TreeIs, seen-fields}
 use Rattle.nodes.proofs.Offers.{both-true, plainKind, made-offers, node-entered}
-
--- the definition's pair of a kind's number; another kind is passed over
-abbrev pub pairNo : ℕ → definition.Pair
-pairNo kind lprob rprob l r =
-    cond (eqb kind 49) (definition.andB lprob rprob l r)
-    (cond (eqb kind 50) (definition.andV lprob rprob l r)
-    (cond (eqb kind 51) (definition.orB lprob rprob l r)
-    (cond (eqb kind 52) (definition.orD lprob rprob l r)
-    (cond (eqb kind 53) (definition.orC lprob rprob l r)
-    (cond (eqb kind 54) (definition.orI lprob rprob l r) definition.passedOver)))))
 
 -- ---- what a pair stands for
 
@@ -102,18 +92,21 @@ module _ (pol m : List ℕ) (l r : ℕ) (hl : l < nodeCount m) (hr : r < nodeCou
   unfolding treeOf find left right
   or-i-seen = of-row pairs.orI (OrI left right) (λ t d c. refl)
 
-  next-seen : (b : Bool) (x y : Made) (u v : definition.Made) → madeSeen pol m x ≡ u → madeSeen pol m y ≡ v
-      → madeSeen pol m (cond b x y) ≡ cond b u v
-  next-seen true x y u v p q = p
-  next-seen false x y u v p q = q
+  -- what is made stands for a pair of the definition
+  abbrev Sees : Made → Pair → Type 0
+  Sees x f = madeSeen pol m x ≡ f lprob rprob (seen pol m l) (seen pol m r)
 
-  from-row : (row : Row) (rest : List Row) (kind : ℕ) (u v : definition.Made) → madeSeen pol m (pairBy row (nodeAt m l) l (nodeAt m r) r lprob rprob) ≡ u
-      → madeSeen pol m (pairFrom rest kind (nodeAt m l) l (nodeAt m r) r lprob rprob) ≡ v
-      → madeSeen pol m (pairFrom (row ∷ rest) kind (nodeAt m l) l (nodeAt m r) r lprob rprob) ≡ cond (eqb kind (row .kind)) u v
+  next-seen : (b : Bool) (x y : Made) (f g : Pair) → Sees x f → Sees y g → Sees (cond b x y) (cond b f g)
+  next-seen true x y f g p q = p
+  next-seen false x y f g p q = q
+
+  from-row : (row : Row) (rest : List Row) (kind : ℕ) (f g : Pair) → Sees (pairBy row (nodeAt m l) l (nodeAt m r) r lprob rprob) f
+      → Sees (pairFrom rest kind (nodeAt m l) l (nodeAt m r) r lprob rprob) g
+      → Sees (pairFrom (row ∷ rest) kind (nodeAt m l) l (nodeAt m r) r lprob rprob) (cond (eqb kind (row .kind)) f g)
   unfolding pairFrom
-  from-row row rest kind u v p q =
+  from-row row rest kind f g p q =
       next-seen (eqb kind (row .kind)) (pairBy row (nodeAt m l) l (nodeAt m r) r lprob rprob)
-      (pairFrom rest kind (nodeAt m l) l (nodeAt m r) r lprob rprob) u v p q
+      (pairFrom rest kind (nodeAt m l) l (nodeAt m r) r lprob rprob) f g p q
 
   none-left : (kind : ℕ) → madeSeen pol m (pairFrom [] kind (nodeAt m l) l (nodeAt m r) r lprob rprob) ≡ definition.passedOver
   unfolding pairFrom
@@ -121,12 +114,12 @@ module _ (pol m : List ℕ) (l r : ℕ) (hl : l < nodeCount m) (hr : r < nodeCou
 
   pub pair-seen : (kind : ℕ) → madeSeen pol m (pairOf kind (nodeAt m l) l (nodeAt m r) r lprob rprob) ≡ pairNo kind lprob rprob (seen pol m l) (seen pol m r)
   pair-seen kind =
-      from-row pairs.andB _ kind _ _ and-b-seen
-      (from-row pairs.andV _ kind _ _ and-v-seen
-      (from-row pairs.orB _ kind _ _ or-b-seen
-      (from-row pairs.orD _ kind _ _ or-d-seen
-      (from-row pairs.orC _ kind _ _ or-c-seen
-      (from-row pairs.orI _ kind _ _ or-i-seen (none-left kind))))))
+      from-row pairs.andB _ kind definition.andB _ and-b-seen
+      (from-row pairs.andV _ kind definition.andV _ and-v-seen
+      (from-row pairs.orB _ kind definition.orB _ or-b-seen
+      (from-row pairs.orD _ kind definition.orD _ or-d-seen
+      (from-row pairs.orC _ kind definition.orC _ or-c-seen
+      (from-row pairs.orI _ kind definition.orI (λ lw rw l r. definition.passedOver) or-i-seen (none-left kind))))))
 
 -- ---- what a triple stands for
 

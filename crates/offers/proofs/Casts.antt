@@ -8,7 +8,7 @@ use Rattle.candidates.specs.declared.Candidate as code
 use Rattle.candidates.specs.declared.CastResult.{CastResult}
 use Rattle.candidates.specs.declared.CastResult.the-variants.{Cast}
 use Rattle.candidates.specs.Casts.{castOf}
-use Rattle.compilation.specs.Candidates.{Candidate}
+use Rattle.compilation.specs.Candidates.{Candidate, castNo}
 use Rattle.compilation.specs.Tables.{Probs}
 use Rattle.compilation.specs.Search.{insertedIfTyped}
 use Rattle.laws.proofs.Steps.{insertedIfTyped-none, insertedIfTyped-some}
@@ -23,7 +23,7 @@ use Rattle.table.specs.Inserted.{stateOf, seenTable}
 use Rattle.table.proofs.Kept.{extends-refl}
 use Rattle.closure.specs.declared.End.the-variants.{Done}
 use Rattle.closure.specs.declared.Closed.{Closed}
-use Rattle.closure.specs.Closed.{castNo, Closes}
+use Rattle.closure.specs.Closed.{Closes}
 use Rattle.closure.proofs.Offering.{closed}
 use Rattle.offers.specs.Offering.{InsertedCast}
 

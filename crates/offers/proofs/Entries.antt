@@ -9,7 +9,7 @@ use lib.ListN.{length, getD, drop, List·getD-map}
 use lib.Seq.{drop-cons, drop-length}
 use Rattle.terms.specs.declared.Context.{Context}
 use Rattle.writing.specs.WellFormed.{AllBelow}
-use Rattle.compilation.specs.Candidates.{Candidate}
+use Rattle.compilation.specs.Candidates.{Candidate, castNo}
 use Rattle.compilation.specs.Tables as definition
 use Rattle.compilation.specs.Tables.{Probs}
 use Rattle.compilation.specs.Refusals.{Stored, Res, M, then}
@@ -28,7 +28,7 @@ use Rattle.table.proofs.Kept.{extends-refl, extends-trans}
 use Rattle.closure.specs.declared.End.{End}
 use Rattle.closure.specs.declared.End.the-variants.{Done, Refused}
 use Rattle.closure.specs.declared.Closed.{Closed}
-use Rattle.closure.specs.Closed.{answer, castNo}
+use Rattle.closure.specs.Closed.{answer}
 use Rattle.closure.proofs.Offering.{closed}
 use Rattle.recall.specs.State.{slotTable}
 use Rattle.offers.specs.Offering.{InsertedCast, SlotReady, InsertedCasts}

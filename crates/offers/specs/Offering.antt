@@ -9,6 +9,7 @@ use Rattle.policies.specs.Forms.{kindOf, numberOf}
 use Rattle.policies.specs.Array.{policyAt}
 use Rattle.writing.specs.WellFormed.{AllBelow}
 use Rattle.candidates.specs.declared.Candidate as node
+use Rattle.compilation.specs.Candidates.{castNo}
 use Rattle.compilation.specs.Tables.{Probs}
 use Rattle.compilation.specs.Refusals.{Stored}
 use Rattle.compilation.specs.Search.{leaves, insertedIfTyped, forEach}
@@ -24,7 +25,7 @@ use Rattle.table.specs.Rows.{TableHolds}
 use Rattle.table.specs.Inserted.{stateOf, seenTable, Extends}
 use Rattle.closure.specs.declared.End.the-variants.{Done}
 use Rattle.closure.specs.declared.Closed.{Closed}
-use Rattle.closure.specs.Closed.{answer, castNo}
+use Rattle.closure.specs.Closed.{answer}
 use Rattle.recall.specs.State.{slotTable}
 
 -- ---- what a policy is

@@ -9,10 +9,9 @@ use borrow.Author.Tests.{eq-eqb, ne-eqb}
 use lib.Arith.{lt-of-le-ne}
 use lib.Dec.{eqb}
 use lib.ListN.{length, getD, length-map}
-use lib.Ieee.{Float}
 use Rattle.figures.specs.Bounds.{Small}
 use Rattle.writing.specs.WellFormed.{AllBelow}
-use Rattle.compilation.specs.Candidates.{Candidate, Made, Pair, passedOver, andB, andV, orB, orD, orC, orI}
+use Rattle.compilation.specs.Candidates.{passedOver, pairNo}
 use Rattle.compilation.specs.Candidates as definition
 use Rattle.candidates.specs.declared.Candidate as node
 use Rattle.candidates.specs.declared.Made as code
@@ -21,13 +20,11 @@ use Rattle.memory.specs.Layout.{nodeCount}
 use Rattle.nodes.specs.Words.{nodeAt}
 use Rattle.nodes.specs.Views.{seen}
 use Rattle.nodes.proofs.Grown.{small-at}
-use Rattle.nodes.proofs.Pairs as nodes
 use Rattle.nodes.proofs.Pairs.{pair-seen, and-or-seen, pair-fresh, and-or-fresh}
 use Rattle.memory.specs.Layout.{tableCount}
 use Rattle.remembered.specs.Slots.{slotAt}
 use Rattle.remembered.proofs.Tables.{entries-few}
 use Rattle.stages.specs.declared.Pairing.{Pairing}
-use Rattle.stages.specs.Stages.{pairNo}
 use Rattle.pairing.specs.Mades.{pairsOf, triplesOf, entriesAt, tableAt, madesOf, lengthAt, countOf}
 use Rattle.nodes.specs.Offers.{madeSeen}
 use Rattle.pairing.specs.Mades.{PlaceHolds, Paired, Counted, MadeAt}
@@ -81,22 +78,6 @@ product-small h k = mul-le-mul h k
 
 pub triple-product-small : {a b c : ℕ} → a ≤ 128 → b ≤ 128 → c ≤ 128 → a * b * c ≤ 2097152
 triple-product-small h k l = mul-le-mul (mul-le-mul h k) l
-
--- ---- the pairs of stages are those of nodes
-
-module _ (lw rw : Float) (x y : Candidate) where
-  of-first : (b : Bool) (f g : Pair) (r : Made) → r ≡ g lw rw x y → cond b (f lw rw x y) r ≡ cond b f g lw rw x y
-  of-first true f g r is = refl
-  of-first false f g r is = is
-
-  same-pair : (kind : ℕ) → nodes.pairNo kind lw rw x y ≡ pairNo kind lw rw x y
-  same-pair kind =
-      of-first (eqb kind 49) andB _ _
-      (of-first (eqb kind 50) andV _ _
-      (of-first (eqb kind 51) orB _ _
-      (of-first (eqb kind 52) orD _ _
-      (of-first (eqb kind 53) orC _ _
-      (of-first (eqb kind 54) orI (λ lw rw l r. passedOver) _ refl)))))
 
 -- ---- the digits of a number below the count
 
@@ -210,7 +191,6 @@ module _ {m slots : List ℕ} {a : Pairing} {i : ℕ} (h : Paired m a slots) whe
         sees =
             λ pol. ap (madeSeen pol m) whole
             ∙ pair-seen pol m l r (first .1) (second .1) (a .lw) (a .rw) (a .kind)
-            ∙ same-pair (a .lw) (a .rw) (seen pol m l) (seen pol m r) (a .kind)
             ∙ pair-sees pol l r n k below is (first .0) (second .0);
         fresh = λ y e. pair-fresh (h .nodes) (first .1) (second .1) (a .lw) (a .rw) (a .kind) (sym whole ∙ e);
       }

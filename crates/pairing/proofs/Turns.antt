@@ -13,7 +13,7 @@ use lib.Seq.{drop-length, getD-take, length-take-le, take-suc-set}
 use lib.Ieee.{Float}
 use Rattle.terms.specs.declared.Context.{Context}
 use Rattle.writing.specs.WellFormed.{AllBelow}
-use Rattle.compilation.specs.Candidates.{Candidate, Made, Pair, passedOver, andOr}
+use Rattle.compilation.specs.Candidates.{Candidate, Made, Pair, passedOver, andOr, pairNo}
 use Rattle.compilation.specs.Tables.{Probs, Table}
 use Rattle.compilation.specs.Refusals.{M, State, Res, done, then}
 use Rattle.compilation.specs.Search.{Again, forEach, wrappedIfMade, binary, ternary}
@@ -27,7 +27,7 @@ use Rattle.memory.specs.Layout.{tableCount}
 use Rattle.remembered.specs.Slots.{Slot, slotAt, Kept}
 use Rattle.recall.specs.State.{slotTable, Ready, Onward}
 use Rattle.stages.specs.declared.Pairing.{Pairing}
-use Rattle.stages.specs.Stages.{False, tableNo, pairNo, paired, andPairings, andOrPairings, orPairings}
+use Rattle.stages.specs.Stages.{False, tableNo, paired, andPairings, andOrPairings, orPairings}
 use Rattle.pairing.specs.Mades.{pairsOf, triplesOf, forMades, entriesAt, tableAt, madesOf, countOf, PlaceHolds, Paired}
 use Rattle.stages.proofs.Stages.{then-same, drop-next}
 use Rattle.pairing.proofs.Numbered.{map-at}

@@ -7,7 +7,7 @@ use Prim.Native.Nat.{ℕ, _*_, _<_, _≤_}
 use lib.Dec.{eqb}
 use lib.ListN.{length, getD}
 use Rattle.writing.specs.WellFormed.{AllBelow}
-use Rattle.compilation.specs.Candidates.{Candidate, Made, passedOver, andOr}
+use Rattle.compilation.specs.Candidates.{Candidate, Made, passedOver, andOr, pairNo}
 use Rattle.compilation.specs.Tables.{Table}
 use Rattle.compilation.specs.Refusals.{M, _>>=_, pure}
 use Rattle.candidates.specs.declared.Candidate as node
@@ -20,7 +20,7 @@ use Rattle.nodes.specs.Offers.{Offerable, madeSeen}
 use Rattle.memory.specs.Layout.{tableCount}
 use Rattle.remembered.specs.Slots.{slotAt, Kept}
 use Rattle.stages.specs.declared.Pairing.{Pairing}
-use Rattle.stages.specs.Stages.{False, pairNo}
+use Rattle.stages.specs.Stages.{False}
 
 -- ---- each with each
 

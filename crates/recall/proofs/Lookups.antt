@@ -7,17 +7,15 @@ use Prim.Native.Nat.{ℕ, zero, suc, _<_, _≤_}
 use native.Mathlib.Omega.{arith}
 use borrow.Author.Tests.{eqb-true, eqb-false}
 use lib.Dec.{eqb}
-use lib.Ieee.{Float, eq}
+use lib.Ieee.{Float}
 use Rattle.policies.specs.Policy.{Policy}
 use Rattle.policies.specs.Array.{policyAt, Named}
 use Rattle.classes.specs.Classes.{classAt}
 use Rattle.classes.proofs.Laws.{equal-classes, equal-policies}
 use Rattle.classes.proofs.Places.{named-below}
 use Rattle.costs.specs.declared.DissatProb.{DissatProb}
-use Rattle.costs.specs.declared.DissatProb.the-variants as Prob
 use Rattle.compilation.specs.SamePolicy.{same}
 use Rattle.compilation.specs.Tables.{Table, probs}
-use Rattle.compilation.specs.Refusals as definition
 use Rattle.compilation.specs.Refusals.{sameProbs, lookup}
 use Rattle.laws.proofs.SamePolicies.{same-self, same-not}
 use Rattle.laws.proofs.Steps.{lookup-none, lookup-found, lookup-other}
@@ -25,7 +23,7 @@ use Rattle.remembered.specs.declared.Found.{Found}
 use Rattle.remembered.specs.declared.Found.the-variants.{At, Missing}
 use Rattle.memory.specs.Layout.{tableCount}
 use Rattle.remembered.specs.Slots.{Slot, slotAt, slotsUpTo}
-use Rattle.remembered.specs.Lookup.{sameProb, sameKey, findUpTo, findIn}
+use Rattle.remembered.specs.Lookup.{sameKey, findUpTo, findIn}
 use Rattle.recall.specs.State.{storedAs, slotTable, Classed, SlotHolds, Ready}
 use Rattle.recall.specs.Recalled.{Recalled, found, new}
 
@@ -45,12 +43,6 @@ class-again {pol} classed r named =
     equal-classes pol (classed .classes) (classAt pol r) r (stands .named) named (stands .same)
 
 -- ---- keys
-
-probs-same : (a b : DissatProb) → definition.sameProb a b ≡ sameProb a b
-probs-same (Prob.Some p) (Prob.Some q) = refl
-probs-same (Prob.Some p) Prob.None = refl
-probs-same Prob.None (Prob.Some q) = refl
-probs-same Prob.None Prob.None = refl
 
 same-of-equal : (p q : Policy) → p ≡ q → same p q ≡ true
 same-of-equal p q e = ap (same p) (sym e) ∙ same-self p
@@ -74,7 +66,6 @@ module _ {pol m : List ℕ} (classed : Classed pol) (ready : Ready pol m) (r : �
         ≡ sameKey (classAt pol r) sat dissat t
     key-same t h =
         ap (λ (b : Bool). b && sameProbs (probs sat dissat) (probs (t .sat) (t .dissat))) (same-class t h)
-        ∙ ap (λ (b : Bool). eqb (classAt pol r) (t .number) && (eq sat (t .sat) && b)) (probs-same dissat (t .dissat))
 
     -- what is looked up among the first n tables
     looked : ℕ → Option Table

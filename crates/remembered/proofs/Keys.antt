@@ -12,8 +12,8 @@ use Rattle.words.proofs.Floats.{float-again}
 use Rattle.words.proofs.Packing.{digit, rest}
 use Rattle.costs.specs.declared.DissatProb.{DissatProb}
 use Rattle.costs.specs.declared.DissatProb.the-variants as Prob
+use Rattle.costs.specs.Probabilities.{sameProb}
 use Rattle.remembered.specs.Slots.{numberIn, flagIn, lengthIn, dissatIn}
-use Rattle.remembered.specs.Lookup.{sameProb}
 use Rattle.remembered.specs.Words.{flagOf, keyStart, Holds, sameWord}
 
 pub flag-small : (dissat : DissatProb) → flagOf dissat ≤ 1

@@ -1,23 +1,17 @@
 -- Which remembered table is meant: the newest of a policy at the same probabilities, as IEEE 754 compares them. From `PolicyCache` in
 -- policy/compiler.rs and document 01, "Modules, leaves first", 7. Assumes nothing.
-use mathlib.Core.Bool.{Bool, true, false, cond, _&&_}
+use mathlib.Core.Bool.{Bool, cond, _&&_}
 use mathlib.Core.List.{List, [], _∷_}
 use mathlib.Core.Option.{Option, none, some}
 use Prim.Native.Nat.{ℕ, zero, suc}
 use lib.Dec.{eqb}
 use lib.Ieee.{Float, eq}
 use Rattle.costs.specs.declared.DissatProb.{DissatProb}
-use Rattle.costs.specs.declared.DissatProb.the-variants as Prob
+use Rattle.costs.specs.Probabilities.{sameProb}
 use Rattle.remembered.specs.declared.Found.{Found}
 use Rattle.remembered.specs.declared.Found.the-variants.{At, Missing}
 use Rattle.memory.specs.Layout.{tableCount}
 use Rattle.remembered.specs.Slots.{Slot, slotAt}
-
-abbrev pub sameProb : DissatProb → DissatProb → Bool
-sameProb (Prob.Some p) (Prob.Some q) = eq p q
-sameProb (Prob.Some p) Prob.None = false
-sameProb Prob.None (Prob.Some q) = false
-sameProb Prob.None Prob.None = true
 
 -- whether a table is remembered under this key
 abbrev pub sameKey : ℕ → Float → DissatProb → Slot → Bool

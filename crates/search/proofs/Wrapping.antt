@@ -15,7 +15,7 @@ use Rattle.costs.specs.declared.DissatProb.the-variants as Prob
 use Rattle.candidates.specs.declared.Candidate as node
 use Rattle.candidates.specs.declared.Made as code
 use Rattle.candidates.specs.declared.Made.the-variants as Made
-use Rattle.compilation.specs.Candidates.{Candidate, Cast, allCasts}
+use Rattle.compilation.specs.Candidates.{Candidate, Cast, allCasts, castNo}
 use Rattle.compilation.specs.Candidates as definition
 use Rattle.compilation.specs.Tables as definition-tables
 use Rattle.compilation.specs.Tables.{Probs, probs}
@@ -32,7 +32,7 @@ use Rattle.table.specs.Inserted.{stateOf, seenTable}
 use Rattle.closure.specs.declared.End.{End}
 use Rattle.closure.specs.declared.End.the-variants.{Done, Refused}
 use Rattle.closure.specs.declared.Closed.{Closed}
-use Rattle.closure.specs.Closed.{answer, castNo, Closes}
+use Rattle.closure.specs.Closed.{answer, Closes}
 use Rattle.closure.proofs.Offering.{closed}
 use Rattle.recall.specs.declared.Out.{Out}
 use Rattle.recall.specs.declared.Out.the-variants as Out

@@ -33,7 +33,7 @@ use Rattle.table.specs.Inserted.{stateOf, seenTable, Extends}
 use Rattle.closure.specs.declared.End.{End}
 use Rattle.closure.specs.declared.End.the-variants.{Done, Refused}
 use Rattle.closure.specs.declared.Closed.{Closed}
-use Rattle.closure.specs.Closed.{answer, castNo}
+use Rattle.closure.specs.Closed.{answer}
 use Rattle.recall.specs.State.{Classed, Ready, Onward, Room, Paid, load, stateIn, slotTable}
 use Rattle.stages.specs.declared.Ask.{Ask}
 use Rattle.stages.specs.declared.Pairing.{Pairing}

@@ -11,7 +11,7 @@ use Rattle.costs.specs.declared.DissatProb.{DissatProb}
 use Rattle.costs.specs.declared.DissatProb.the-variants as Prob
 use Rattle.costs.specs.Arithmetic.{_⊕_, _⊗_, 0·, 1·}
 use Rattle.policies.specs.Array.{policyAt}
-use Rattle.compilation.specs.Candidates.{Pair, passedOver, false′, andB, andV, orB, orD, orC, orI}
+use Rattle.compilation.specs.Candidates.{false′, pairNo}
 use Rattle.compilation.specs.Tables.{Probs, probs, Table}
 use Rattle.compilation.specs.Refusals.{M, State, Res, done, refused, then, _>>=_, pure}
 use Rattle.compilation.specs.Search.{Again, binary, ternary, search, orNone}
@@ -44,17 +44,6 @@ False = 8
 
 abbrev pub tableNo : List Table → ℕ → Table
 tableNo ts n = cond (eqb n False) (false′ ∷ []) (getD ts n [])
-
--- the pair of a kind
-abbrev pub pairNo : ℕ → Pair
-pairNo kind =
-    cond (eqb kind 49) andB
-    (cond (eqb kind 50) andV
-    (cond (eqb kind 51) orB
-    (cond (eqb kind 52) orD
-    (cond (eqb kind 53) orC
-    (cond (eqb kind 54) orI
-    (λ lw rw l r. passedOver))))))
 
 abbrev pub paired : Context → Probs → Again → List Table → Pairing → Table → M Table
 paired c p g ts a t =

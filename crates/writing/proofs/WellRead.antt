@@ -42,7 +42,7 @@ little-below (suc width) (b ∷ s) l h =
     let q = little-below width s (omega arith) (h .1) in
     omega arith
 
-u32-below : (s : List ℕ) (at : ℕ) → AllBelow 256 s → IsU32 (u32 s at)
+pub u32-below : (s : List ℕ) (at : ℕ) → AllBelow 256 s → IsU32 (u32 s at)
 unfolding leAt
 u32-below s at h = by-room (hasBytes 4 s at)
   where
