@@ -5,8 +5,7 @@ use mathlib.Core.Path.{_≡_}
 use Prim.Native.Nat.{ℕ, zero, suc, _-_, _≤_}
 use Rattle.terms.specs.declared.Context.{Context}
 use Rattle.candidates.specs.declared.Candidate as code
-use Rattle.compilation.specs.Candidates.{allCasts}
-pub use Rattle.compilation.specs.Candidates.{castNo}
+use Rattle.compilation.specs.Candidates.{allCasts, castNo}
 use Rattle.compilation.specs.Tables as definition
 use Rattle.compilation.specs.Tables.{Probs}
 use Rattle.compilation.specs.Refusals.{State, Stored, Res, done, refused}

@@ -1,5 +1,5 @@
 -- What a search does besides its answer: it counts acceptances, remembers tables, and may refuse: document 01, "Numbers the console shows".
-use mathlib.Core.Bool.{Bool, true, false, not, cond, _&&_}
+use mathlib.Core.Bool.{Bool, not, cond, _&&_}
 use mathlib.Core.List.{List, [], _∷_}
 use mathlib.Core.Option.{Option, none, some}
 use Prim.Native.Nat.{ℕ, suc, _+_}
