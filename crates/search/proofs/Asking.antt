@@ -161,8 +161,9 @@ and-or-lighter-of sat dissat w v x y o = (
   ),
 )
 
-pub lighter-at : {pol : List ℕ} {r : ℕ} {dissat : DissatProb} (as′ : List Ask) → AllLighter pol r dissat as′ → (j : ℕ) (d : Ask) → j < length as′
-    → Lighter pol r dissat (getD as′ j d)
+-- one of those that are asked for
+pub lighter-at : {pol : List ℕ} {r : ℕ} {dissat : DissatProb} (as′ : List Ask) → AllLighter pol r dissat as′ → (j : ℕ) (d : Ask)
+    → j < length as′ → Lighter pol r dissat (getD as′ j d)
 unfolding AllLighter
 lighter-at [] h j d l = absurd (omega arith)
 lighter-at (a ∷ as′) h zero d l = h .0

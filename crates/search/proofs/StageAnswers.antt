@@ -1,5 +1,5 @@
--- What the answers of `stage`, `search_all`, `pair_all`, `pair` and `wrapped_if_made` ask beside the lemmas of their own files: the rank falls from
--- place to place and from a policy to what it asks for, and the elements that an array of asks or of pairings never gives. Assumes nothing.
+-- What the answers of `stage`, `search_all`, `pair_all`, `pair` and `wrapped_if_made` ask beside the lemmas of their own files: the rank
+-- falls from a policy to what it asks for, and the elements that an array of asks or of pairings never gives. Assumes nothing.
 use mathlib.Core.Path.{subst}
 use mathlib.Core.List.{List}
 use Prim.Native.Nat.{ℕ, _<_, _≤_}

@@ -13,6 +13,7 @@ use Rattle.recall.specs.Recalled.{tableAnswer, Tabled}
 use Rattle.recall.proofs.Growing.{onward-refl}
 use Rattle.recall.proofs.Chains.{paid-refl}
 
+-- an end is not a refusal and done at once
 pub not-both : (n : ℕ) → Refused n ≡ Done → ⊥
 not-both n d = let z : _≡_ {A = ℕ} 0 1 = cc in omega arith
 

@@ -1,3 +1,4 @@
+-- `search::child_dissat` meets its contract: with a probability of dissatisfaction and without. Assumes nothing.
 use borrow.Author.Needs.{needs}
 use Rattle.search.proofs.child_dissat.Statement.{statement}
 use Rattle.search.proofs.child_dissat.Tie as tie
