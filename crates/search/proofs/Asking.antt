@@ -1,10 +1,10 @@
 -- What a search asks for weighs less than its policy, and can be written as records too; and the places of the pairings. Assumes nothing.
 use mathlib.Core.Path.{_≡_, refl, sym, ap, _∙_, subst}
-use mathlib.Core.List.{List, [], _∷_, _++_}
-use Prim.Native.Nat.{ℕ, zero, suc, _+_, _*_, _<_, _≤_}
+use mathlib.Core.List.{List, [], _∷_}
+use Prim.Native.Nat.{ℕ, zero, suc, _<_, _≤_}
 use native.Mathlib.Omega.{arith}
 use lib.Ieee.{Float}
-use lib.ListN.{length}
+use lib.ListN.{length, getD}
 use Rattle.costs.specs.declared.DissatProb.{DissatProb}
 use Rattle.costs.specs.declared.DissatProb.the-variants as Prob
 use Rattle.costs.specs.Arithmetic.{1·}
@@ -12,14 +12,14 @@ use Rattle.policies.specs.Policy.{Policy, Policies, Unsatisfiable, Trivial, Key
 use Rattle.policies.specs.Policy.{weight, toList, fromList, foldAnd, folded}
 use Rattle.policies.specs.Forms.{kindOf, kOf, childrenOf, nth}
 use Rattle.policies.specs.Array.{policyAt, andPolicy, countAt, Good, Named, stored, folds, childNumber, foldNumber}
-use Rattle.policies.proofs.Forms.{two-and, two-or, is-thresh, to-from}
+use Rattle.policies.proofs.Forms.{is-thresh, to-from}
 use Rattle.policies.proofs.Views.{and-is, child-is, child-falls, fold-is, fold-falls}
 use Rattle.laws.specs.FormedPolicy.{FormedPolicy, AllFormed}
-use Rattle.recall.specs.State.{flagOf, load, Ready, Room, Paid}
+use Rattle.recall.specs.State.{flagOf, load, Ready, Paid}
 use Rattle.recall.proofs.Chains.{room-kept, room-below}
 use Rattle.stages.specs.declared.Ask.{Ask}
 use Rattle.stages.specs.declared.Pairing.{Pairing}
-use Rattle.stages.specs.Stages.{ask, andAsks, andPairings, andOrAsks, andOrPairings, sideAsks, orAsks, orPairings, False}
+use Rattle.stages.specs.Stages.{ask, andAsks, andPairings, andOrAsks, andOrPairings, orAsks, orPairings, False}
 use Rattle.search.specs.Searching.{Going, Lighter, AllLighter, Under, PlacesIn, AllPlaced}
 
 -- ---- policies that can be written
@@ -69,9 +69,6 @@ load-falls q q′ d d′ h =
     omega arith
 
 -- and from a policy to itself with no dissatisfaction
-pub again-lighter : (q : Policy) (d : Float) → load q Prob.None < load q (Prob.Some d)
-again-lighter q d = omega arith
-
 pub again-falls : (q : Policy) (d : DissatProb) → flagOf d ≡ 1 → load q Prob.None < load q d
 again-falls q d h = omega arith
 
@@ -99,16 +96,6 @@ module _ {pol : List ℕ} (g : Good pol) {r : ℕ} (named : Named pol r) (formed
         falls =
             load-falls (policyAt pol r) (policyAt pol (childNumber pol r j)) Prob.None (Prob.Some 1·) (child-falls pol g r j named l);
       }
-
-  pub under-and : kindOf (policyAt pol r) ≡ 10 → Under pol r (childNumber pol r 0) × Under pol r (childNumber pol r 1)
-  under-and e =
-      let two = two-and (policyAt pol r) e in
-      (under-child 0 (omega arith), under-child 1 (omega arith))
-
-  pub under-or : kindOf (policyAt pol r) ≡ 11 → Under pol r (childNumber pol r 0) × Under pol r (childNumber pol r 1)
-  under-or e =
-      let two = two-or (policyAt pol r) e in
-      (under-child 0 (omega arith), under-child 1 (omega arith))
 
 pub under-under : {pol : List ℕ} {r a b : ℕ} → Under pol r a → Under pol a b → Under pol r b
 under-under {pol} {r} {a} {b} u w =
@@ -174,27 +161,13 @@ and-or-lighter-of sat dissat w v x y o = (
   ),
 )
 
-module _ {pol : List ℕ} (g : Good pol) {r : ℕ} (named : Named pol r) (formed : FormedPolicy (policyAt pol r)) (sat : Float) (dissat : DissatProb) where
-  -- by an And
-  pub and-lighter : kindOf (policyAt pol r) ≡ 10 → AllLighter pol r dissat (andAsks (childNumber pol r 0) (childNumber pol r 1) sat dissat)
-  and-lighter e =
-      let two = under-and g named formed e in
-      and-lighter-of sat dissat (two .0) (two .1)
-
-  -- by an Or
-  pub or-lighter : (left right : Float) → kindOf (policyAt pol r) ≡ 11
-      → AllLighter pol r dissat (orAsks (childNumber pol r 0) (childNumber pol r 1) sat dissat left right)
-  or-lighter left right e =
-      let two = under-or g named formed e in
-      or-lighter-of sat dissat left right (two .0) (two .1)
-
--- by an Or one side of which, number a, is an And
-pub and-or-lighter : {pol : List ℕ} → Good pol → {r a other : ℕ} (sat : Float) (dissat : DissatProb) (w v : Float) → Under pol r a → Under pol r other
-    → kindOf (policyAt pol a) ≡ 10
-    → AllLighter pol r dissat (andOrAsks (childNumber pol a 0) (childNumber pol a 1) other sat dissat w v)
-and-or-lighter g sat dissat w v u o e =
-    let two = under-and g (u .named) (u .formed) e in
-    and-or-lighter-of sat dissat w v (under-under u (two .0)) (under-under u (two .1)) o
+-- one of those that are asked for
+pub lighter-at : {pol : List ℕ} {r : ℕ} {dissat : DissatProb} (as′ : List Ask) → AllLighter pol r dissat as′ → (j : ℕ) (d : Ask)
+    → j < length as′ → Lighter pol r dissat (getD as′ j d)
+unfolding AllLighter
+lighter-at [] h j d l = absurd (omega arith)
+lighter-at (a ∷ as′) h zero d l = h .0
+lighter-at (a ∷ as′) h (suc j) d l = lighter-at as′ (h .1) j d (omega arith)
 
 -- ---- the places of pairings
 
@@ -312,7 +285,8 @@ module _ {pol : List ℕ} (g : Good pol) {r : ℕ} (named : Named pol r) (kind :
   of-named (stored h) = h
   of-named (folds i t e h u) =
       let few : countAt pol i ≤ 16 = g .rows .few i h in
-      let is : kindOf (policyAt pol r) ≡ 10 = ap (λ (n : ℕ). kindOf (policyAt pol n)) e ∙ ap kindOf (and-is pol i t (omega arith)) ∙ and-kind pol i t in
+      let is : kindOf (policyAt pol r) ≡ 10 = ap (λ (n : ℕ). kindOf (policyAt pol n)) e ∙ ap kindOf (and-is pol i t (omega arith))
+      ∙ and-kind pol i t in
       absurd (omega arith)
 
   -- is a record

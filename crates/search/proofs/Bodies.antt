@@ -1,7 +1,7 @@
 -- A search, and what it makes of each kind of policy, by its steps: from what each step leaves to what the whole leaves. Assumes nothing.
-use mathlib.Core.Path.{_≡_, refl, sym, ap, _∙_, subst}
+use mathlib.Core.Path.{_≡_, sym, ap, _∙_, subst}
 use mathlib.Core.List.{List, [], _∷_}
-use Prim.Native.Nat.{ℕ, _+_, _<_, _≤_}
+use Prim.Native.Nat.{ℕ}
 use native.Mathlib.Omega.{arith}
 use lib.Ieee.{Float}
 use lib.ListN.{take}
@@ -19,8 +19,8 @@ use Rattle.writing.specs.WellFormed.{AllBelow}
 use Rattle.compilation.specs.Candidates as definition
 use Rattle.compilation.specs.Candidates.{Candidate}
 use Rattle.compilation.specs.Tables.{Probs, probs, Table}
-use Rattle.compilation.specs.Refusals.{M, State, Res, done, refused, then}
-use Rattle.compilation.specs.Search.{Again, Body, search, searcher, wrapped, forEach, leaves, orBody, andOrs, kept, remembering}
+use Rattle.compilation.specs.Refusals.{M, State, Res, done, then}
+use Rattle.compilation.specs.Search.{Again, Body, search, searcher, wrapped, forEach, leaves, orBody, andOrs, remembering}
 use Rattle.laws.specs.FormedPolicy.{FormedPolicy}
 use Rattle.laws.specs.Bodies.{againIn, bodyOf, bodyIn}
 use Rattle.laws.proofs.Bodies.{search-is}
@@ -30,45 +30,27 @@ use Rattle.nodes.specs.Views.{seenAll, offered}
 use Rattle.nodes.proofs.Leaves.{pk-h-seen, pk-k-seen}
 use Rattle.remembered.specs.declared.Found.{Found}
 use Rattle.remembered.specs.declared.Found.the-variants.{At, Missing}
-use Rattle.table.specs.declared.Table as code-table
 use Rattle.table.specs.Rows.{TableHolds}
 use Rattle.table.specs.Inserted.{seenTable}
 use Rattle.closure.specs.declared.End.{End}
-use Rattle.closure.specs.declared.End.the-variants as End
 use Rattle.closure.specs.declared.Closed.{Closed}
 use Rattle.closure.specs.Closed.{answer}
 use Rattle.recall.specs.declared.Out.{Out}
 use Rattle.recall.specs.declared.Out.the-variants.{Slot}
 use Rattle.recall.specs.State.{stateIn, Ready}
-use Rattle.recall.specs.Recalled.{tableAnswer, outAnswer, Searched, Tabled, Recalled, Remembered}
-use Rattle.recall.proofs.Growing.{onward-refl}
-use Rattle.recall.proofs.Chains.{paid-refl, tabled-then, recalled-found, recalled-new, remembered-searched}
+use Rattle.recall.specs.Recalled.{tableAnswer, Searched, Tabled, Recalled, Remembered}
+use Rattle.recall.proofs.Chains.{tabled-then, recalled-found, recalled-new, remembered-searched}
 use Rattle.stages.specs.declared.Ask.{Ask}
 use Rattle.stages.specs.declared.Pairing.{Pairing}
 use Rattle.stages.specs.Stages.{staged, andAsks, andPairings, andOrAsks, andOrPairings, orAsks, orPairings}
-use Rattle.stages.proofs.Stages.{and-staged, and-or-staged, and-or-plain, or-staged}
+use Rattle.stages.proofs.Stages.{then-same, and-staged, and-or-staged, and-or-plain, or-staged}
 use Rattle.offers.specs.Offering.{Empty, IsLeaf, LeafOf}
 use Rattle.search.specs.Searching.{Going, Doing, IsOr}
+use Rattle.search.proofs.Steps.{then-pure, tabled-as, table-stays}
 
--- ---- steps
-
--- what is left is told by an equal answer
-pub tabled-as : {extra : ℕ} {res res′ : Res Table} {pol m₀ m : List ℕ} {o : Closed} → res ≡ res′ → Tabled extra res pol o m₀ m
-    → Tabled extra res′ pol o m₀ m
-tabled-as {extra} {pol} {m₀} {m} {o} e h = subst (λ (r : Res Table). Tabled extra r pol o m₀ m) e h
-
+-- the same answer by another name
 pub searched-as : {res res′ : Res Table} {pol m₀ m : List ℕ} {o : Out} → res ≡ res′ → Searched res pol o m₀ m → Searched res′ pol o m₀ m
 searched-as {pol} {m₀} {m} {o} e h = subst (λ (r : Res Table). Searched r pol o m₀ m) e h
-
-then-same : {A B : Type 0} (r : Res A) (k l : A → M B) → ((a : A) (s : State) → k a s ≡ l a s) → then r k ≡ then r l
-unfolding then
-then-same (done a s) k l same = same a s
-then-same (refused e) k l same = refl
-
-then-pure : (r : Res Table) (k : Table → M Table) → ((t : Table) (s : State) → k t s ≡ done t s) → then r k ≡ r
-unfolding then
-then-pure (done t s) k same = same t s
-then-pure (refused e) k same = refl
 
 -- ---- a table with no entry
 
@@ -146,7 +128,8 @@ module _ (c : Context) {pol : List ℕ} (good : Good pol) {r : ℕ} (named : Nam
   pub body-and : {l q : ℕ} {asks : List Ask} {pairings : List Pairing} {none o : Closed} {m₀ m : List ℕ} → kindOf (policyAt pol r) ≡ 10
       → l ≡ childNumber pol r 0 → q ≡ childNumber pol r 1 → asks ≡ andAsks l q sat dissat → pairings ≡ andPairings → Empty none
       → Tabled 0
-      (then (tableAnswer pol m₀ none) (λ t. staged c pol (probs sat dissat) (againIn c (policyAt pol r) (probs sat dissat)) asks pairings t)) pol o m₀ m
+      (then (tableAnswer pol m₀ none) (λ t. staged c pol (probs sat dissat)
+      (againIn c (policyAt pol r) (probs sat dissat)) asks pairings t)) pol o m₀ m
       → Tabled 0 (bodyIn c (policyAt pol r) (probs sat dissat) (stateIn pol m₀)) pol o m₀ m
   body-and {l} {q} {asks} {pairings} {none} {o} {m₀} {m} kind left right as-asked as-paired nothing h =
       let p : Probs = probs sat dissat in
@@ -194,15 +177,8 @@ module _ (c : Context) {pol : List ℕ} (good : Good pol) (g : Again) (sat : Flo
       pol t m m
   and-ors-plain {m} kind ready holds =
       let p : Probs = probs sat dissat in
-      record {
-        says =
-            then-pure (tableAnswer pol m t) (λ t. andOrs c p g (searcher c (policyAt pol a)) (searcher c (policyAt pol other)) w v t)
-            (λ t s. and-or-plain c pol p g (policyAt pol a) (searcher c (policyAt pol other)) w v t s kind);
-        ready = ready;
-        onward = onward-refl m;
-        table = holds;
-        paid = λ e. paid-refl m;
-      }
+      table-stays t (λ t. andOrs c p g (searcher c (policyAt pol a)) (searcher c (policyAt pol other)) w v t) ready holds
+      (λ t s. and-or-plain c pol p g (policyAt pol a) (searcher c (policyAt pol other)) w v t s kind)
 
 module _ (c : Context) {pol : List ℕ} (good : Good pol) {r : ℕ} (named : Named pol r) (sat : Float) (dissat : DissatProb) where
   -- the table of an Or, from both sides and its stage
@@ -212,16 +188,20 @@ module _ (c : Context) {pol : List ℕ} (good : Good pol) {r : ℕ} (named : Nam
       → pairings ≡ orPairings w v → Empty none
       → Tabled 0
       (then (tableAnswer pol m₀ none)
-      (λ t. andOrs c (probs sat dissat) (againIn c (policyAt pol r) (probs sat dissat)) (searcher c (policyAt pol l)) (searcher c (policyAt pol q)) w v t))
+      (λ t. andOrs c (probs sat dissat) (againIn c (policyAt pol r) (probs sat dissat)) (searcher c (policyAt pol l))
+      (searcher c (policyAt pol q)) w v t))
       pol left m₀ m₁
       → Tabled 0
       (then (tableAnswer pol m₁ left)
-      (λ t. andOrs c (probs sat dissat) (againIn c (policyAt pol r) (probs sat dissat)) (searcher c (policyAt pol q)) (searcher c (policyAt pol l)) v w t))
+      (λ t. andOrs c (probs sat dissat) (againIn c (policyAt pol r) (probs sat dissat)) (searcher c (policyAt pol q))
+      (searcher c (policyAt pol l)) v w t))
       pol both m₁ m₂
       → Tabled 0
-      (then (tableAnswer pol m₂ both) (λ t. staged c pol (probs sat dissat) (againIn c (policyAt pol r) (probs sat dissat)) asks pairings t)) pol o m₂ m
+      (then (tableAnswer pol m₂ both) (λ t. staged c pol (probs sat dissat)
+      (againIn c (policyAt pol r) (probs sat dissat)) asks pairings t)) pol o m₂ m
       → Tabled 0 (bodyIn c (policyAt pol r) (probs sat dissat) (stateIn pol m₀)) pol o m₀ m
-  body-or {l} {q} {leftWeight} {rightWeight} {w} {v} {asks} {pairings} {none} {left} {both} {o} {m₀} {m₁} {m₂} {m} is first second as-w as-v as-asked as-paired nothing
+  body-or {l} {q} {leftWeight} {rightWeight} {w} {v} {asks} {pairings} {none} {left} {both} {o} {m₀} {m₁} {m₂}
+      {m} is first second as-w as-v as-asked as-paired nothing
       h₁ h₂ h₃ =
       let p : Probs = probs sat dissat in
       let g : Again = againIn c (policyAt pol r) p in
@@ -237,15 +217,18 @@ module _ (c : Context) {pol : List ℕ} (good : Good pol) {r : ℕ} (named : Nam
       ∙ sym (body-is s))
       (tabled-then (tabled-then h₁ k₂ h₂) k₃ h₃)
     where
-      sides : (x y : ℕ) → l ≡ x → q ≡ y → (a b : ℕ) → a ≡ leftWeight → b ≡ rightWeight → Or (policyAt pol x) (policyAt pol y) a b ≡ Or (policyAt pol l) (policyAt pol q) leftWeight rightWeight
+      sides : (x y : ℕ) → l ≡ x → q ≡ y → (a b : ℕ) → a ≡ leftWeight → b ≡ rightWeight
+          → Or (policyAt pol x) (policyAt pol y) a b ≡ Or (policyAt pol l) (policyAt pol q) leftWeight rightWeight
       sides x y i j a b e f = rw (i, j, e, f)
 
       body-is : (s : State) → bodyIn c (policyAt pol r) (probs sat dissat) s
-          ≡ orBody c (searcher c (policyAt pol l)) (searcher c (policyAt pol q)) w v (probs sat dissat) (againIn c (policyAt pol r) (probs sat dissat)) s
+          ≡ orBody c (searcher c (policyAt pol l)) (searcher c (policyAt pol q)) w v (probs sat dissat)
+          (againIn c (policyAt pol r) (probs sat dissat)) s
       body-is s =
           body-of c (probs sat dissat) s
           (or-of pol good r named (is .isOr)
-          ∙ sides (childNumber pol r 0) (childNumber pol r 1) first second (leftWeightOf (policyAt pol r)) (rightWeightOf (policyAt pol r)) (is .isLeft)
+          ∙ sides (childNumber pol r 0) (childNumber pol r 1) first second (leftWeightOf (policyAt pol r)) (rightWeightOf (policyAt pol r))
+          (is .isLeft)
           (is .isRight))
           ∙ ap
           (λ (x : Float).
@@ -254,7 +237,8 @@ module _ (c : Context) {pol : List ℕ} (good : Good pol) {r : ℕ} (named : Nam
           (sym as-w)
           ∙ ap
           (λ (x : Float).
-          orBody c (searcher c (policyAt pol l)) (searcher c (policyAt pol q)) w x (probs sat dissat) (againIn c (policyAt pol r) (probs sat dissat)) s)
+          orBody c (searcher c (policyAt pol l)) (searcher c (policyAt pol q)) w x (probs sat dissat)
+          (againIn c (policyAt pol r) (probs sat dissat)) s)
           (sym as-v)
 
 -- ---- leaves
@@ -278,7 +262,8 @@ module _ (c : Context) {pol : List ℕ} {r : ℕ} (sat : Float) (dissat : Dissat
   pub body-leaf : {kind number : ℕ} {x : node.Candidate} {none o : Closed} {m₀ m : List ℕ} → LeafOf kind number r x
       → IsLeaf (policyAt pol r) kind number → FormedPolicy (policyAt pol r) → (kind ≡ 3 → ⊥) → Empty none
       → Tabled 0
-      (then (tableAnswer pol m₀ none) (λ t. wrapped c (probs sat dissat) (againIn c (policyAt pol r) (probs sat dissat)) (offered pol m₀ x) t)) pol o m₀ m
+      (then (tableAnswer pol m₀ none) (λ t. wrapped c (probs sat dissat) (againIn c (policyAt pol r) (probs sat dissat))
+      (offered pol m₀ x) t)) pol o m₀ m
       → Tabled 0 (bodyIn c (policyAt pol r) (probs sat dissat) (stateIn pol m₀)) pol o m₀ m
   unfolding bodyIn
   body-leaf {kind} {number} {x} {none} {o} {m₀} {m} leaf-of is formed no-key nothing h =
@@ -297,7 +282,8 @@ module _ (c : Context) {pol : List ℕ} {r : ℕ} (sat : Float) (dissat : Dissat
       (then (tableAnswer pol m₀ none) (λ t. wrapped c (probs sat dissat) (againIn c (policyAt pol r) (probs sat dissat)) (offered pol m₀ x) t))
       pol first m₀ m₁
       → Tabled 0
-      (then (tableAnswer pol m₁ first) (λ t. wrapped c (probs sat dissat) (againIn c (policyAt pol r) (probs sat dissat)) (offered pol m₁ y) t)) pol o m₁ m
+      (then (tableAnswer pol m₁ first) (λ t. wrapped c (probs sat dissat) (againIn c (policyAt pol r) (probs sat dissat))
+      (offered pol m₁ y) t)) pol o m₁ m
       → Tabled 0 (bodyIn c (policyAt pol r) (probs sat dissat) (stateIn pol m₀)) pol o m₀ m
   body-key {number} {x} {y} {none} {first} {o} {m₀} {m₁} {m} is as-x as-y nothing h₁ h₂ =
       let p : Probs = probs sat dissat in

@@ -5,7 +5,6 @@ use Prim.Native.Nat.{ℕ, _<_, _≤_}
 use native.Mathlib.Omega.{arith}
 use lib.Ieee.{Float}
 use lib.ListN.{length, take}
-use Rattle.terms.specs.declared.Context.{Context}
 use Rattle.terms.specs.Leaves.{After, Older, Sha256, Hash256, Ripemd160, Hash160}
 use Rattle.costs.specs.declared.DissatProb.{DissatProb}
 use Rattle.policies.proofs.Forms.{is-or}
@@ -17,9 +16,7 @@ use Rattle.policies.specs.Array.{policyAt, countAt, Good, Named, stored, folds,
 use Rattle.writing.specs.WellFormed.{IsU32}
 use Rattle.laws.specs.FormedPolicy.{FormedPolicy}
 use Rattle.candidates.specs.declared.Candidate.{Candidate}
-use Rattle.candidates.specs.Leaves.{pkH, pkK}
 use Rattle.nodes.specs.Offers.{Offerable}
-use Rattle.nodes.proofs.Leaves.{pk-h-offers, pk-k-offers}
 use Rattle.offers.specs.Offering.{IsLeaf}
 use Rattle.stages.specs.declared.Ask.{Ask}
 use Rattle.stages.specs.declared.Pairing.{Pairing}
@@ -33,14 +30,8 @@ use Rattle.recall.specs.Recalled.{Tabled}
 use Rattle.recall.proofs.Chains.{tabled-more}
 use Rattle.search.proofs.Bodies.{all-or-asks, all-or-pairings}
 use Rattle.search.specs.Searching.{IsOr, IsThresh, AllLighter, AllPlaced, Under}
-use Rattle.search.proofs.Ranks.{rank}
-use Rattle.search.proofs.Asking.{under-and, under-or, under-under, and-lighter-of, or-lighter-of, and-or-lighter-of, and-placed, or-placed, and-or-placed}
-use Rattle.search.proofs.Asking.{thresh-bounds}
-
--- ---- the rank falls with the place
-
-pub goes-down : (pol : List ℕ) (r : ℕ) (d : DissatProb) (a b : ℕ) {t : ℕ} → a < b → rank pol r d b ≡ t → rank pol r d a < t
-goes-down pol r d a b h e = omega arith
+use Rattle.search.proofs.Asking.{under-child, under-under, and-lighter-of, or-lighter-of, and-or-lighter-of, thresh-bounds}
+use Rattle.search.proofs.Asking.{and-placed, or-placed, and-or-placed}
 
 -- ---- numbers that fit
 
@@ -83,11 +74,11 @@ module _ {h : Head} (q : Policy) (is : h ≡ headOf q) where
       }
 
   -- its weights are u32, where those of the policy are
-  pub head-left-low : IsU32 (leftWeightOf q) → IsU32 (h .«left_weight»)
-  head-left-low low = subst IsU32 (sym (ap (λ (h : Head). h .«left_weight») is)) low
-
-  pub head-right-low : IsU32 (rightWeightOf q) → IsU32 (h .«right_weight»)
-  head-right-low low = subst IsU32 (sym (ap (λ (h : Head). h .«right_weight») is)) low
+  pub head-low : IsU32 (leftWeightOf q) × IsU32 (rightWeightOf q) → IsU32 (h .«left_weight») × IsU32 (h .«right_weight»)
+  head-low low = (
+    subst IsU32 (sym (ap (λ (h : Head). h .«left_weight») is)) (low .0),
+    subst IsU32 (sym (ap (λ (h : Head). h .«right_weight») is)) (low .1),
+  )
 
   pub head-thresh : {k n : ℕ} → h .kind ≡ 12 → k ≡ h .k → n ≡ h .count → IsThresh q k n
   head-thresh e k n =
@@ -111,31 +102,25 @@ pub thresh-k-low : {pol : List ℕ} {r : ℕ} {h : Head} → Good pol → Named 
     → h .kind ≡ 12 → h .k < 65536
 thresh-k-low {pol} {r} {h} g named formed is e =
     let k : h .k ≡ kOf (policyAt pol r) = ap (λ (h : Head). h .k) is in
-    let bounds : (1 ≤ kOf (policyAt pol r)) × (kOf (policyAt pol r) ≤ length (childrenOf (policyAt pol r))) × (length (childrenOf (policyAt pol r)) ≤ 16) =
+    let bounds : (1 ≤ kOf (policyAt pol r)) × (kOf (policyAt pol r) ≤ length (childrenOf (policyAt pol r)))
+    × (length (childrenOf (policyAt pol r)) ≤ 16) =
     thresh-bounds g named (head-kind (policyAt pol r) is e) refl refl formed in
     omega (arith, bounds .1, bounds .2)
 
--- ---- a key may be offered
+-- ---- a candidate that is known may be offered
 
-pub is-pk-h : (m : List ℕ) (c : Context) (held : ℕ) {x : Candidate} → x ≡ pkH c held → Offerable m x
-is-pk-h m c held e = subst (Offerable m) (sym e) (pk-h-offers m c held)
-
-pub is-pk-k : (m : List ℕ) (c : Context) (held : ℕ) {x : Candidate} → x ≡ pkK c held → Offerable m x
-is-pk-k m c held e = subst (Offerable m) (sym e) (pk-k-offers m c held)
+pub offers-as : {m : List ℕ} {x y : Candidate} → x ≡ y → Offerable m y → Offerable m x
+offers-as {m} e offers = subst (Offerable m) (sym e) offers
 
 -- ---- what is under a number, by the numbers that were read
 
 module _ {pol : List ℕ} (g : Good pol) {r : ℕ} (named : Named pol r) (formed : FormedPolicy (policyAt pol r)) {l q : ℕ}
     (left : l ≡ childNumber pol r 0) (right : q ≡ childNumber pol r 1) where
-  pub and-under : kindOf (policyAt pol r) ≡ 10 → Under pol r l × Under pol r q
-  and-under e =
-      let two = under-and g named formed e in
-      (subst (Under pol r) (sym left) (two .0), subst (Under pol r) (sym right) (two .1))
-
-  pub or-under : kindOf (policyAt pol r) ≡ 11 → Under pol r l × Under pol r q
-  or-under e =
-      let two = under-or g named formed e in
-      (subst (Under pol r) (sym left) (two .0), subst (Under pol r) (sym right) (two .1))
+  pub two-under : length (childrenOf (policyAt pol r)) ≡ 2 → Under pol r l × Under pol r q
+  two-under two = (
+    subst (Under pol r) (sym left) (under-child g named formed 0 (omega arith)),
+    subst (Under pol r) (sym right) (under-child g named formed 1 (omega arith)),
+  )
 
 -- ---- the asks and the pairings of stages
 

@@ -1,5 +1,7 @@
--- What falls, and what each call asks for and leaves: of wrapping, pairing and stages, of what is asked for, of the bodies, and of a Thresh.
+-- What falls, the steps that all take, and what each call asks for and leaves: of wrapping, pairing and stages, of what is asked for, of the
+-- bodies, and of a Thresh.
 pub mod Ranks
+pub mod Steps
 pub mod Wrapping
 pub mod Pairing
 pub mod Staging

@@ -1,13 +1,13 @@
 -- All candidates of one pairing, each wrapped, and one pairing after another. One lemma for each way out of `pair` and `pair_all`, and what
 -- their calls ask for. Assumes nothing.
 use mathlib.Core.Path.{_≡_, refl, sym, ap, _∙_, subst}
-use mathlib.Core.Bool.{Bool, true, false, cond, _&&_}
+use mathlib.Core.Bool.{Bool, true, false}
 use mathlib.Core.List.{List, [], _∷_, map}
 use Prim.Native.Nat.{ℕ, zero, suc, _+_, _<_, _≤_}
 use native.Mathlib.Omega.{arith}
 use borrow.Author.Tests.{eqb-false, lt-ltb}
 use lib.Arith.{lt-of-le-ne}
-use lib.Dec.{eqb, ltb}
+use lib.Dec.{eqb}
 use lib.ListN.{length, getD, drop, take}
 use lib.Seq.{take-length, getD-take, length-take-le}
 use Rattle.terms.specs.declared.Context.{Context}
@@ -15,12 +15,12 @@ use Rattle.costs.specs.declared.DissatProb.{DissatProb}
 use Rattle.candidates.specs.declared.Made as code
 use Rattle.compilation.specs.Candidates.{Made, passedOver}
 use Rattle.compilation.specs.Tables.{Probs, Table}
-use Rattle.compilation.specs.Refusals.{M, State, Res, done, refused, then}
+use Rattle.compilation.specs.Refusals.{M, State, Res, done, then}
 use Rattle.compilation.specs.Search.{Again, wrappedIfMade}
 use Rattle.laws.proofs.Steps.{then-then}
 use Rattle.closure.specs.declared.End.the-variants.{Done}
 use Rattle.closure.specs.declared.Closed.{Closed}
-use Rattle.recall.specs.State.{Ready, Onward, Paid, stateIn, slotTable}
+use Rattle.recall.specs.State.{Onward, Paid, slotTable}
 use Rattle.recall.specs.Recalled.{tableAnswer, Tabled}
 use Rattle.recall.proofs.Growing.{onward-refl, onward-trans}
 use Rattle.recall.proofs.Chains.{paid-refl, paid-after}
@@ -30,13 +30,15 @@ use Rattle.stages.proofs.Stages.{then-same, pair-end, pair-on}
 use Rattle.nodes.specs.Offers.{madeSeen}
 use Rattle.pairing.specs.Mades.{forMades, madesOf, countOf, PlaceHolds, Paired, Counted, MadeAt}
 use Rattle.pairing.proofs.Turns.{for-end, for-next, within, placesWithin, paired-mades, paired-kept, mades-kept, count-kept}
-use Rattle.search.specs.Searching.{Doing, AllPaired, OffersIfMade}
+use Rattle.search.specs.Searching.{Doing, AllPaired, OffersIfMade, PlacesIn}
+use Rattle.search.proofs.Steps.{then-pure}
 use Rattle.search.proofs.Wrapping.{was-done, doing-next}
 
 -- ---- work that was handed on and is gone on with
 
 -- some steps still to come, `k`, on what is done by now give what all steps, `k₀`, gave on what was there before the first
-pub record GoingOn (pol : List ℕ) (r : ℕ) (dissat : DissatProb) (c : Closed) (m₀ : List ℕ) (k₀ k : Table → M Table) (o : Closed) (m : List ℕ) : Type 0 where
+pub record GoingOn (pol : List ℕ) (r : ℕ) (dissat : DissatProb) (c : Closed) (m₀ : List ℕ) (k₀ k : Table → M Table) (o : Closed)
+    (m : List ℕ) : Type 0 where
   pub says : then (tableAnswer pol m o) k ≡ then (tableAnswer pol m₀ c) k₀
   pub doing : Doing pol r dissat o m
   pub onward : Onward m₀ m
@@ -64,40 +66,45 @@ module _ {pol : List ℕ} {r : ℕ} {dissat : DissatProb} {c : Closed} {m₀ : L
       }
 
   going-ends : ((t : Table) (s : State) → k t s ≡ done t s) → Tabled 0 (then (tableAnswer pol m₀ c) k₀) pol o m₀ m
-  unfolding then
   going-ends none =
       record {
-        says = sym (i .says) ∙ then-same (tableAnswer pol m o) k (λ t s. done t s) none ∙ then-over (tableAnswer pol m o);
+        says = sym (i .says) ∙ then-pure (tableAnswer pol m o) k none;
         ready = i .doing .ready;
         onward = i .onward;
         table = i .doing .table;
         paid = i .paid;
       }
-    where
-      then-over : (a : Res Table) → then a (λ t s. done t s) ≡ a
-      then-over (done t s) = refl
-      then-over (refused n) = refl
 
 -- ---- the places of a pairing
 
-place-within : {m slots : List ℕ} {place : ℕ} → length slots ≡ 8 → PlaceHolds m slots place → within (length slots) place ≡ true
-place-within {m} {slots} {place} eight h = by-test (eqb place False) refl
+place-within : (n place : ℕ) → ((place ≡ False → ⊥) → place < n) → within n place ≡ true
+place-within n place low = by-test (eqb place False) refl
   where
-    by-test : (b : Bool) → eqb place False ≡ b → within (length slots) place ≡ true
+    by-test : (b : Bool) → eqb place False ≡ b → within n place ≡ true
     by-test true e = rw e
-    by-test false e =
-        let low : place < False = lt-of-le-ne (h .within) (eqb-false place False e) in
-        rw (e, lt-ltb place (length slots) (omega arith))
+    by-test false e = rw (e, lt-ltb place n (low (eqb-false place False e)))
 
-places-within : {m slots : List ℕ} {a : Pairing} → length slots ≡ 8 → Paired m a slots → placesWithin (length slots) a ≡ true
-places-within eight h = rw (place-within eight (h .first), place-within eight (h .second), place-within eight (h .third))
+pub places-within : (n : ℕ) (a : Pairing) → PlacesIn n a → placesWithin n a ≡ true
+places-within n a h =
+    rw (place-within n (a .first) (h .first), place-within n (a .second) (h .second), place-within n (a .third) (h .third))
+
+-- of a pairing that can be made, among eight slots
+paired-places : {m slots : List ℕ} {a : Pairing} → length slots ≡ 8 → Paired m a slots → PlacesIn (length slots) a
+paired-places {m} {slots} eight h =
+    record { first = low (h .first); second = low (h .second); third = low (h .third) }
+  where
+    low : {place : ℕ} → PlaceHolds m slots place → (place ≡ False → ⊥) → place < length slots
+    low {place} h other =
+        let less : place < False = lt-of-le-ne (h .within) other in
+        omega arith
 
 -- a pairing is the candidates that it makes, in turn
-pairing-mades : (pol : List ℕ) {m slots : List ℕ} {a : Pairing} → length slots ≡ 8 → Paired m a slots → (C : Context) (p : Probs) (g : Again) (t : Table)
+pairing-mades : (pol : List ℕ) {m slots : List ℕ} {a : Pairing} → length slots ≡ 8 → Paired m a slots
+    → (C : Context) (p : Probs) (g : Again) (t : Table)
     (s : State) → paired C p g (map (slotTable pol m) slots) a t s ≡ forMades (wrappedIfMade C p g) (madesOf pol m a slots) t s
 pairing-mades pol {m} {slots} {a} eight h C p g t s =
     ap (λ (ss : List ℕ). paired C p g (map (slotTable pol m) ss) a t s) (sym (take-length slots))
-    ∙ paired-mades (h .nodes) pol slots (length slots) (omega arith) C p g a (places-within eight h) t s
+    ∙ paired-mades (h .nodes) pol slots (length slots) (omega arith) C p g a (places-within (length slots) a (paired-places eight h)) t s
 
 -- ---- the candidates of a pairing
 
@@ -166,7 +173,8 @@ PairAllOn C p g pol r dissat pairings slots c m₀ i o m =
     GoingOn pol r dissat c m₀ (λ t. pairAll C p g (map (slotTable pol m₀) slots) pairings t)
     (λ t. pairAll C p g (map (slotTable pol m₀) slots) (drop i pairings) t) o m
 
-module _ (C : Context) (p : Probs) (g : Again) {pol : List ℕ} {r : ℕ} {dissat : DissatProb} (pairings : List Pairing) (k : ℕ) (slots : List ℕ) {c : Closed}
+module _ (C : Context) (p : Probs) (g : Again) {pol : List ℕ} {r : ℕ} {dissat : DissatProb} (pairings : List Pairing) (k : ℕ)
+    (slots : List ℕ) {c : Closed}
     {m₀ : List ℕ} (h : AllPaired m₀ slots (take k pairings)) where
   pub pair-all-begins : Doing pol r dissat c m₀ → PairAllOn C p g pol r dissat (take k pairings) slots c m₀ 0 c m₀
   pair-all-begins d = going-begins d (λ t. pairAll C p g (map (slotTable pol m₀) slots) (take k pairings) t)

@@ -10,5 +10,6 @@ use Rattle.recall.specs.State.{load}
 abbrev pub rank : List ℕ → ℕ → DissatProb → (place : ℕ) → ℕ
 rank pol r d place = 32 * load (policyAt pol r) d + place
 
+-- what is below a rank that is known
 pub below : {a b t : ℕ} → a < b → b ≡ t → a < t
 below h e = omega arith

@@ -1,8 +1,8 @@
--- What the answers of `stage`, `search_all`, `pair_all`, `pair` and `wrapped_if_made` ask beside the lemmas of their own files: the rank falls from
--- place to place and from a policy to what it asks for, and the elements that an array of asks or of pairings never gives. Assumes nothing.
+-- What the answers of `stage`, `search_all`, `pair_all`, `pair` and `wrapped_if_made` ask beside the lemmas of their own files: the rank
+-- falls from a policy to what it asks for, and the elements that an array of asks or of pairings never gives. Assumes nothing.
 use mathlib.Core.Path.{subst}
-use mathlib.Core.List.{List, [], _∷_}
-use Prim.Native.Nat.{ℕ, zero, suc, _<_, _≤_}
+use mathlib.Core.List.{List}
+use Prim.Native.Nat.{ℕ, _<_, _≤_}
 use native.Mathlib.Omega.{arith}
 use lib.Ieee.{nan}
 use lib.ListN.{length, getD, take}
@@ -15,6 +15,7 @@ use Rattle.stages.specs.declared.Ask.{Ask}
 use Rattle.stages.specs.declared.Pairing.{Pairing}
 use Rattle.search.specs.Searching.{Lighter, AllLighter}
 use Rattle.search.proofs.Ranks.{rank}
+use Rattle.search.proofs.Asking.{lighter-at}
 
 abbrev pub noAsk : Ask
 noAsk = record { r = 0; sat = nan; dissat = Prob.Some nan }
@@ -22,19 +23,9 @@ noAsk = record { r = 0; sat = nan; dissat = Prob.Some nan }
 abbrev pub noPairing : Pairing
 noPairing = record { kind = 0; first = 0; second = 0; third = 0; lw = nan; rw = nan }
 
--- from a place in the cycle to a lower one
-pub rank-falls : (pol : List ℕ) (r : ℕ) (d : DissatProb) (p q : ℕ) → p < q → rank pol r d p < rank pol r d q
-rank-falls pol r d p q h = omega arith
-
-lighter-at : {pol : List ℕ} {r : ℕ} {dissat : DissatProb} (as′ : List Ask) → AllLighter pol r dissat as′ → (j : ℕ) (d : Ask) → j < length as′
-    → Lighter pol r dissat (getD as′ j d)
-unfolding AllLighter
-lighter-at [] h j d l = absurd (omega arith)
-lighter-at (a ∷ as′) h zero d l = h .0
-lighter-at (a ∷ as′) h (suc j) d l = lighter-at as′ (h .1) j d (omega arith)
-
 -- to what is asked for
-pub ask-falls : (pol : List ℕ) (r : ℕ) (dissat : DissatProb) (asks : List Ask) (n : ℕ) → n ≤ length asks → AllLighter pol r dissat (take n asks) → (j : ℕ) → j < n
+pub ask-falls : (pol : List ℕ) (r : ℕ) (dissat : DissatProb) (asks : List Ask) (n : ℕ) → n ≤ length asks
+    → AllLighter pol r dissat (take n asks) → (j : ℕ) → j < n
     → (d : Ask) (p q : ℕ) → p < 32 → rank pol (getD asks j d .r) (getD asks j d .dissat) p < rank pol r dissat q
 ask-falls pol r dissat asks n few h j l d p q low =
     let at-j : Lighter pol r dissat (getD asks j d) =

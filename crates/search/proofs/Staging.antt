@@ -1,11 +1,11 @@
 -- The searches of a stage, one after another, and a stage: its searches, then its pairings. One lemma for each way out of `search_all` and
 -- `stage`, and what their calls ask for. Assumes nothing.
 use mathlib.Core.Path.{_≡_, refl, sym, ap, _∙_, subst}
-use mathlib.Core.Bool.{Bool, true, false, cond}
+use mathlib.Core.Bool.{Bool, true, false}
 use mathlib.Core.List.{List, [], _∷_, _++_, map}
-use Prim.Native.Nat.{ℕ, zero, suc, _+_, _<_, _≤_}
+use Prim.Native.Nat.{ℕ, _+_, _<_, _≤_}
 use native.Mathlib.Omega.{arith}
-use borrow.Author.Tests.{eqb-false, lt-ltb}
+use borrow.Author.Tests.{eqb-false}
 use lib.Dec.{eqb}
 use lib.ListN.{length, getD, drop, take, set}
 use lib.Seq.{getD-take, length-take-le}
@@ -14,7 +14,7 @@ use Rattle.policies.specs.Array.{policyAt}
 use Rattle.costs.specs.declared.DissatProb.{DissatProb}
 use Rattle.writing.specs.WellFormed.{AllBelow}
 use Rattle.compilation.specs.Tables.{Probs, probs, Table}
-use Rattle.compilation.specs.Refusals.{M, State, Res, done, refused, then, pure}
+use Rattle.compilation.specs.Refusals.{State, Res, done, refused, then, pure}
 use Rattle.compilation.specs.Search.{Again, search}
 use Rattle.laws.proofs.Steps.{then-done, then-refused}
 use Rattle.memory.specs.Layout.{tableCount}
@@ -33,12 +33,13 @@ use Rattle.stages.specs.declared.Ask.{Ask}
 use Rattle.stages.specs.declared.Pairing.{Pairing}
 use Rattle.stages.specs.Stages.{asked, askAll, False, tableNo, paired, pairAll, staged}
 use Rattle.stages.proofs.Stages.{then-same, ask-end, ask-on-done, ask-on-refused, staged-is}
-use Rattle.pairing.specs.Mades.{Paired}
 use Rattle.pairing.proofs.Numbered.{map-at}
-use Rattle.pairing.proofs.Turns.{within, placesWithin, tables-kept, ready-paired, slots-next, tables-next}
+use Rattle.pairing.proofs.Turns.{tables-kept, ready-paired, slots-next, tables-next}
 use Rattle.search.specs.declared.Asked.{Asked}
 use Rattle.search.specs.Searching.{Going, Doing, Lighter, AllLighter, askedAnswer, AskedAll, PlacesIn, AllPlaced, AllPaired}
+use Rattle.search.proofs.Asking.{lighter-at}
 use Rattle.search.proofs.Wrapping.{starts}
+use Rattle.search.proofs.Pairing.{places-within}
 
 -- ---- searches in a row
 
@@ -53,13 +54,6 @@ pub record Asking (C : Context) (pol : List ℕ) (asks : List Ask) (n : ℕ) (m�
 
 abbrev pub askedSlots : List ℕ → End → Asked
 askedSlots slots end = record { slots = slots; end = end }
-
-lighter-at : {pol : List ℕ} {r : ℕ} {dissat : DissatProb} (as′ : List Ask) → AllLighter pol r dissat as′ → (j : ℕ) (d : Ask) → j < length as′
-    → Lighter pol r dissat (getD as′ j d)
-unfolding AllLighter
-lighter-at [] h j d l = absurd (omega arith)
-lighter-at (a ∷ as′) h zero d l = h .0
-lighter-at (a ∷ as′) h (suc j) d l = lighter-at as′ (h .1) j d (omega arith)
 
 module _ (C : Context) {pol : List ℕ} (asks : List Ask) (n : ℕ) {m₀ : List ℕ} where
   pub asking-begins : Ready pol m₀ → (slots : List ℕ) → Asking C pol asks n m₀ 0 slots m₀
@@ -101,7 +95,8 @@ module _ (C : Context) {pol : List ℕ} (asks : List Ask) (n : ℕ) {m₀ : List
       next-is = getD-take n asks j d l ∙ sym is
 
       -- what the next search asks for
-      pub asking-going : {r : ℕ} {dissat : DissatProb} → Going 1 pol r dissat m₀ → AllLighter pol r dissat (take n asks) → Going 0 pol (a .r) (a .dissat) m
+      pub asking-going : {r : ℕ} {dissat : DissatProb} → Going 1 pol r dissat m₀ → AllLighter pol r dissat (take n asks)
+          → Going 0 pol (a .r) (a .dissat) m
       asking-going {r} {dissat} h lighter =
           let light : Lighter pol r dissat a =
           subst (Lighter pol r dissat) next-is (lighter-at (take n asks) lighter j d (omega (arith, length-take-le n asks few))) in
@@ -115,7 +110,8 @@ module _ (C : Context) {pol : List ℕ} (asks : List Ask) (n : ℕ) {m₀ : List
                 (room-kept 1 (policyAt pol r) dissat m₀ m (h .room) (i .paid));
           }
 
-      module _ {out : Out} {m′ : List ℕ} (one : Searched (search C (policyAt pol (a .r)) (probs (a .sat) (a .dissat)) (stateIn pol m)) pol out m m′) where
+      module _ {out : Out} {m′ : List ℕ} (one : Searched (search C (policyAt pol (a .r)) (probs (a .sat) (a .dissat))
+          (stateIn pol m)) pol out m m′) where
         first-is : asked C pol (getD (take n asks) j d) (stateIn pol m) ≡ search C (policyAt pol (a .r)) (probs (a .sat) (a .dissat)) (stateIn pol m)
         first-is = ap (λ (a : Ask). asked C pol a (stateIn pol m)) next-is
 
@@ -153,16 +149,6 @@ module _ (C : Context) {pol : List ℕ} (asks : List Ask) (n : ℕ) {m₀ : List
             }
 
 -- ---- the places of pairings
-
-place-within : (n place : ℕ) → ((place ≡ False → ⊥) → place < n) → within n place ≡ true
-place-within n place low = by-test (eqb place False) refl
-  where
-    by-test : (b : Bool) → eqb place False ≡ b → within n place ≡ true
-    by-test true e = rw e
-    by-test false e = rw (e, lt-ltb place n (low (eqb-false place False e)))
-
-places-within : (n : ℕ) (a : Pairing) → PlacesIn n a → placesWithin n a ≡ true
-places-within n a h = rw (place-within n (a .first) (h .first), place-within n (a .second) (h .second), place-within n (a .third) (h .third))
 
 -- more tables than the pairings name
 module _ (f : ℕ → Table) (slots : List ℕ) (n : ℕ) (few : n ≤ length slots) where

@@ -2,33 +2,30 @@
 -- Assumes nothing.
 use mathlib.Core.Bool.{Bool, true, false, cond}
 use mathlib.Core.Path.{_≡_, refl, sym, ap, _∙_, subst}
-use mathlib.Core.List.{List, [], _∷_, map}
-use mathlib.Core.Option.{Option, none, some}
-use Prim.Native.Nat.{ℕ, suc, _+_, _-_, _<_, _≤_}
+use mathlib.Core.List.{List, [], map}
+use mathlib.Core.Option.{Option, none}
+use Prim.Native.Nat.{ℕ, suc, _-_, _<_, _≤_}
 use native.Mathlib.Omega.{arith}
 use borrow.Author.Tests.{eq-eqb, ne-eqb}
-use lib.Dec.{eqb}
 use lib.Ieee.{Float, inf}
 use lib.ListN.{length, take, length-map}
 use Rattle.terms.specs.declared.Context.{Context}
 use Rattle.costs.specs.declared.DissatProb.{DissatProb}
-use Rattle.costs.specs.declared.DissatProb.the-variants as Prob
-use Rattle.costs.specs.Arithmetic.{_⊕_, _⊖_, _⊗_, _⊘_, floatOf, 1·}
-use Rattle.policies.specs.Policy.{Policy, Policies, end, _▹_, Thresh, toList, fromList, weight, foldAnd, folded}
-use Rattle.policies.specs.Forms.{kindOf, kOf, numberOf, childrenOf}
+use Rattle.costs.specs.Arithmetic.{_⊗_, _⊘_, floatOf}
+use Rattle.policies.specs.Policy.{Policy, Policies, end, _▹_, Thresh, toList, fromList, folded}
+use Rattle.policies.specs.Forms.{numberOf, childrenOf}
 use Rattle.policies.specs.Array.{policyAt}
 use Rattle.policies.proofs.Forms.{is-thresh, to-from}
-use Rattle.policies.proofs.Weights.{weight-some}
 use Rattle.candidates.specs.declared.Candidate as node
 use Rattle.candidates.specs.declared.Made as code
 use Rattle.writing.specs.WellFormed.{AllBelow}
 use Rattle.compilation.specs.Candidates as definition
 use Rattle.compilation.specs.Candidates.{Candidate, multi, threshOf}
 use Rattle.compilation.specs.Tables.{Probs, probs, Table}
-use Rattle.compilation.specs.Refusals.{M, State, state, Stored, Res, done, refused, then}
+use Rattle.compilation.specs.Refusals.{M, State, state, Stored, Res, done, then}
 use Rattle.compilation.specs.Search.{Again, Searcher, searchOf, search, searcher, searchers, wrapped, wrappedIfMade, multiOf, keysOf}
-use Rattle.compilation.specs.Search.{foldAnds, foldedOr, Best, bests, mostGaining, arranged, orNone}
-use Rattle.laws.specs.Bodies.{againIn, bodyOf, bodyIn}
+use Rattle.compilation.specs.Search.{foldAnds, foldedOr, Best, bests, mostGaining, arranged}
+use Rattle.laws.specs.Bodies.{againIn, bodyIn}
 use Rattle.laws.proofs.Steps.{then-done, then-refused, then-then, searchers-none, searchers-next, threshBody-steps, childProbs, fold-searcher}
 use Rattle.memory.specs.Layout.{nodeCount, rowCount, tableCount, maxRows}
 use Rattle.nodes.specs.Views.{seenAll, offered}
@@ -42,10 +39,10 @@ use Rattle.closure.specs.declared.Closed.{Closed}
 use Rattle.closure.specs.Closed.{answer}
 use Rattle.recall.specs.declared.Out.{Out}
 use Rattle.recall.specs.declared.Out.the-variants.{Slot, Refused}
-use Rattle.recall.specs.State.{storedAll, stateIn, slotTable, Ready, Onward, Paid}
+use Rattle.recall.specs.State.{storedAll, stateIn, Ready, Onward, Paid}
 use Rattle.recall.specs.Recalled.{tableAnswer, IsSlot, Searched, Tabled}
-use Rattle.recall.proofs.Growing.{onward-refl, onward-trans, onward-holds, appended-onward, appended-stored}
-use Rattle.recall.proofs.Chains.{paid-refl, tabled-then, searched-done, searched-refused}
+use Rattle.recall.proofs.Growing.{onward-trans, onward-holds, appended-onward, appended-stored}
+use Rattle.recall.proofs.Chains.{tabled-then, searched-done, searched-refused}
 use Rattle.choice.specs.Arranged.{bestsOf, Gains, Arranges}
 use Rattle.choice.specs.Keys.{keysIf, AllKeys, MultiOf}
 use Rattle.nodes.specs.Offers.{madeSeen}
@@ -53,34 +50,9 @@ use Rattle.choice.specs.Threshes.{MakesThresh}
 use Rattle.search.specs.declared.Bests.{Bests}
 use Rattle.offers.specs.Offering.{Empty}
 use Rattle.search.specs.Searching.{IsThresh, Going, Doing, OffersIfMade, childSearchers, childDissat, bestsAnswer, FoundBests}
-use Rattle.search.proofs.Bodies.{body-of, tabled-as, empty-then, empty-holds}
-
--- ---- steps
-
-then-same : {A B : Type 0} (r : Res A) (k l : A → M B) → ((a : A) (s : State) → k a s ≡ l a s) → then r k ≡ then r l
-unfolding then
-then-same (done a s) k l same = same a s
-then-same (refused e) k l same = refl
-
--- a step that leaves every table leaves this one
-table-stays : {pol m : List ℕ} (c : Closed) (k : Table → M Table) → Ready pol m → TableHolds m (c .table) → ((t : Table) (s : State) → k t s ≡ done t s)
-    → Tabled 0 (then (tableAnswer pol m c) k) pol c m m
-unfolding then
-table-stays {pol} {m} c k ready holds same =
-    record {
-      says = stays (tableAnswer pol m c);
-      ready = ready;
-      onward = onward-refl m;
-      table = holds;
-      paid = λ e. paid-refl m;
-    }
-  where
-    stays : (r : Res Table) → then r k ≡ r
-    stays (done t s) = same t s
-    stays (refused e) = refl
-
-not-both : (n : ℕ) → End.Refused n ≡ End.Done → ⊥
-not-both n d = let z : _≡_ {A = ℕ} 0 1 = cc in omega arith
+use Rattle.stages.proofs.Stages.{then-same}
+use Rattle.search.proofs.Steps.{not-both, tabled-as, table-stays}
+use Rattle.search.proofs.Bodies.{body-of, empty-then, empty-holds}
 
 -- ---- a Thresh and its children
 
@@ -157,21 +129,6 @@ module _ (c : Context) (p : Probs) {q : Policy} {k n : ℕ} (is : IsThresh q k n
   fold-stays ne ready holds =
       table-stays t (λ t. foldedOr c p k (childSearchers c q) t) ready holds
       (λ t s. folded-other c p k t s (fromList (childrenOf q)) (λ e. ne (e ∙ child-count is)))
-
-  -- nothing is folded after a refusal
-  pub fold-after : {pol m : List ℕ} (x : ℕ) → t .end ≡ End.Refused x → Ready pol m → (o : Closed) → o .end ≡ End.Refused x → TableHolds m (o .table)
-      → Tabled 0 (then (tableAnswer pol m t) (λ t. foldedOr c p k (childSearchers c q) t)) pol o m m
-  fold-after {pol} {m} x e ready o e′ holds =
-      record {
-        says =
-            then-refused (λ t. foldedOr c p k (childSearchers c q) t)
-            (ap (λ (e : End). answer e (seenTable pol m (t .table)) (stateIn pol m)) e)
-            ∙ sym (ap (λ (e : End). answer e (seenTable pol m (o .table)) (stateIn pol m)) e′);
-        ready = ready;
-        onward = onward-refl m;
-        table = holds;
-        paid = λ d. paid-refl m;
-      }
 
   -- k = n: the table is the one that the search of the Ands finds
   module _ {pol m₀ m : List ℕ} (f : ℕ) {out : Out} (same : k ≡ n) (has : 1 ≤ n) (was-done : t .end ≡ End.Done)
@@ -267,7 +224,8 @@ module _ (c : Context) (pol : List ℕ) (r : ℕ) (sat : Float) (dissat : Dissat
 
   thresh-steps : (s : State) → bodyIn c (policyAt pol r) (probs sat dissat) s
       ≡ then (bests (probs childSat childDis) (childSearchers c (policyAt pol r)) s)
-      (afterBests c (probs sat dissat) (againIn c (policyAt pol r) (probs sat dissat)) k (childSearchers c (policyAt pol r)) (probs childSat childDis))
+      (afterBests c (probs sat dissat) (againIn c (policyAt pol r) (probs sat dissat)) k (childSearchers c (policyAt pol r))
+      (probs childSat childDis))
   thresh-steps s =
       let p : Probs = probs sat dissat in
       let g : Again = againIn c (policyAt pol r) p in
@@ -295,10 +253,6 @@ module _ (c : Context) (pol : List ℕ) (r : ℕ) (sat : Float) (dissat : Dissat
           table = holds;
           paid = λ d. absurd (not-both x (sym e′ ∙ d));
         }
-
-    -- the row of the Thresh is of nodes
-    pub row-below : {gaining : ℕ} {row : List ℕ} → b .end ≡ End.Done → Arranges (b .es) (b .ws) n gaining row → AllBelow (nodeCount m₁) (take n row)
-    row-below e arranges = arranges .below (nodeCount m₁) (h .es e) (h .ws e)
 
     module _ {gaining : ℕ} {row m₂ : List ℕ} {x : code.Made} (e : b .end ≡ End.Done)
         (gains : Gains m₁ (probs childSat childDis) (b .es) (b .ws) n gaining) (arranges : Arranges (b .es) (b .ws) n gaining row)

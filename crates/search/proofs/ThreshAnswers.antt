@@ -43,11 +43,6 @@ use Rattle.search.proofs.Bodies.{empty-holds}
 use Rattle.search.proofs.Wrapping.{doing-going}
 use Rattle.search.proofs.Tabling.{multi-wrapped, multi-none, fold-found, fold-refused, row-free, thresh-doing, body-thresh-refused}
 
--- ---- the rank falls with the place
-
-pub falls-to : (pol : List ℕ) (r : ℕ) (d : DissatProb) (a b : ℕ) {t : ℕ} → a < b → rank pol r d b ≡ t → rank pol r d a < t
-falls-to pol r d a b h e = omega arith
-
 -- ---- the numbers of a Thresh
 
 pub record Small (r k n : ℕ) : Type 0 where
@@ -70,7 +65,8 @@ pub going-small : {extra : ℕ} {pol : List ℕ} {r k n : ℕ} {d : DissatProb} 
     → Small r k n
 going-small g is = small (g .classed) (g .named) (g .formed) is
 
-pub doing-small : {pol : List ℕ} {r k n : ℕ} {d : DissatProb} {c : Closed} {m : List ℕ} → Doing pol r d c m → IsThresh (policyAt pol r) k n → Small r k n
+pub doing-small : {pol : List ℕ} {r k n : ℕ} {d : DissatProb} {c : Closed} {m : List ℕ} → Doing pol r d c m → IsThresh (policyAt pol r) k n
+    → Small r k n
 doing-small g is = small (g .classed) (g .named) (g .formed) is
 
 -- ---- the Multi
@@ -90,7 +86,8 @@ module _ (C : Context) (sat : Float) {pol : List ℕ} {r k n : ℕ} {dissat : Di
   pub multi-no : b ≡ false
       → Tabled 0
       (then (tableAnswer pol m₀ c)
-      (λ t. multiOf C (probs sat dissat) (againIn C (policyAt pol r) (probs sat dissat)) k (keysOf (childSearchers C (policyAt pol r))) t)) pol c m₀ m₀
+      (λ t. multiOf C (probs sat dissat) (againIn C (policyAt pol r) (probs sat dissat)) k
+      (keysOf (childSearchers C (policyAt pol r))) t)) pol c m₀ m₀
   multi-no e =
       multi-none C (probs sat dissat) (againIn C (policyAt pol r) (probs sat dissat)) pol r is c e keys (d .ready) (d .table)
 

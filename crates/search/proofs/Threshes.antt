@@ -4,29 +4,28 @@ use mathlib.Core.List.{List, [], _∷_, _++_}
 use mathlib.Core.Option.{Option}
 use Prim.Native.Nat.{ℕ, zero, suc, _+_, _<_, _≤_}
 use native.Mathlib.Omega.{arith}
-use lib.Ieee.{Float}
 use lib.ListN.{length, take, drop, set}
 use lib.Seq.{take-suc-set, length-take-le}
 use Rattle.terms.specs.declared.Context.{Context}
-use Rattle.types.specs.declared.correctness.Base.the-variants.{B, W}
+use Rattle.types.specs.declared.correctness.Base.the-variants.{W}
 use Rattle.policies.specs.Policy.{Policy, fromList}
 use Rattle.policies.specs.Forms.{childrenOf, nth}
 use Rattle.writing.specs.WellFormed.{AllBelow}
 use Rattle.compilation.specs.Candidates.{Candidate}
 use Rattle.compilation.specs.Tables.{Probs, Table}
 use Rattle.compilation.specs.Refusals.{M, State, Res, done, refused, then}
-use Rattle.compilation.specs.Search.{Searcher, searchOf, search, searcher, searchers, suitsThresh, chosen, cheapest, Best, bestOf, bests}
+use Rattle.compilation.specs.Search.{Searcher, search, searcher, searchers, chosen, cheapest, Best, bestOf, bests}
 use Rattle.laws.proofs.Steps.{then-done, then-refused, then-then, searchers-none, searchers-next, bestOf-steps, bests-none, bests-next}
 use Rattle.memory.specs.Layout.{nodeCount, tableCount}
-use Rattle.nodes.specs.Views.{seen, seenAll}
+use Rattle.nodes.specs.Views.{seen}
 use Rattle.nodes.proofs.Grown.{seen-kept}
 use Rattle.remembered.specs.Slots.{slotAt, Kept}
 use Rattle.closure.specs.declared.End.{End}
 use Rattle.closure.specs.declared.End.the-variants as End
 use Rattle.recall.specs.declared.Out.{Out}
 use Rattle.recall.specs.declared.Out.the-variants.{Slot, Refused}
-use Rattle.recall.specs.State.{stateIn, slotTable, Ready, Onward, Paid}
-use Rattle.recall.specs.Recalled.{outAnswer, IsSlot, Searched}
+use Rattle.recall.specs.State.{stateIn, Ready, Onward, Paid}
+use Rattle.recall.specs.Recalled.{IsSlot, Searched}
 use Rattle.recall.proofs.Growing.{onward-refl, onward-trans, below-more}
 use Rattle.recall.proofs.Chains.{paid-refl, paid-after, searched-done, searched-refused}
 use Rattle.choice.specs.Arranged.{bestsOf}
@@ -35,10 +34,11 @@ use Rattle.choice.specs.declared.Chosen.{Chosen}
 use Rattle.choice.specs.declared.Chosen.the-variants as Chosen
 use Rattle.choice.specs.declared.Want.{Want}
 use Rattle.choice.specs.declared.Want.the-variants as Want
-use Rattle.search.specs.declared.Best as best
 use Rattle.search.specs.declared.Best.the-variants as Best′
 use Rattle.search.specs.declared.Bests.{Bests}
-use Rattle.search.specs.Searching.{childSearchers, bestAnswer, IsNode, FoundBest, bestsAnswer, FoundBests}
+use Rattle.search.specs.Searching.{childSearchers, FoundBest, bestsAnswer, FoundBests}
+use Rattle.stages.proofs.Stages.{then-same}
+use Rattle.search.proofs.Steps.{not-both, then-pure}
 
 -- ---- the best of one table
 
@@ -93,11 +93,6 @@ module _ (c : Context) (q : Policy) (p : Probs) {pol m₀ m : List ℕ} {o : Out
 
 -- ---- the best of a child, as E and as W
 
-then-same : {A B : Type 0} (r : Res A) (k l : A → M B) → ((a : A) (s : State) → k a s ≡ l a s) → then r k ≡ then r l
-unfolding then
-then-same (done a s) k l same = same a s
-then-same (refused e) k l same = refl
-
 -- what is chosen of what a search finds
 abbrev bestAs : Context → Policy → Probs → Want → M Candidate
 bestAs c q p want s = then (search c q p s) (λ t. chosen (cheapest p (suitsWant want) t))
@@ -131,7 +126,8 @@ module _ (c : Context) (q : Policy) (p : Probs) {pol m₀ m₁ : List ℕ} where
     best-both {w} {m₂} k =
         best-e
         ∙ then-done (λ w s. done (both (seen pol m₁ e) w) s) (k .says)
-        ∙ ap (λ (x : Candidate). done (both x (seen pol m₂ w)) (stateIn pol m₂)) (sym (seen-kept (h .ready .nodes) (k .onward .grows) pol e (h .below)))
+        ∙ ap (λ (x : Candidate). done (both x (seen pol m₂ w)) (stateIn pol m₂))
+        (sym (seen-kept (h .ready .nodes) (k .onward .grows) pol e (h .below)))
 
 -- ---- the bests of all children, one after another
 
@@ -217,25 +213,17 @@ pub record BestsSoFar (c : Context) (p : Probs) (pol : List ℕ) (q : Policy) (j
   pub belowW : AllBelow (nodeCount m) (take j ws)
   pub paid : Paid 0 m₀ m
 
-then-pure : {A : Type 0} (r : Res A) → then r (λ a s. done a s) ≡ r
-unfolding then
-then-pure (done a s) = refl
-then-pure (refused e) = refl
-
 pub bests-begin : (c : Context) (p : Probs) (q : Policy) {pol m : List ℕ} (es ws : List ℕ) → Ready pol m → BestsSoFar c p pol q 0 es ws m m
 unfolding AllBelow bestsOf
 bests-begin c p q {pol} {m} es ws ready =
     record {
-      says = sym (then-pure (bests p (childSearchers c q) (stateIn pol m)));
+      says = sym (then-pure (bests p (childSearchers c q) (stateIn pol m)) (λ bs s. done bs s) (λ bs s. refl));
       ready = ready;
       onward = onward-refl m;
       belowE = tt;
       belowW = tt;
       paid = paid-refl m;
     }
-
-not-both : (n : ℕ) → End.Refused n ≡ End.Done → ⊥
-not-both n d = let z : _≡_ {A = ℕ} 0 1 = cc in omega arith
 
 -- one child more, or a refusal
 module _ (c : Context) (p : Probs) (q : Policy) {pol : List ℕ} {j : ℕ} {es ws m₀ m : List ℕ} (sofar : BestsSoFar c p pol q j es ws m₀ m)
@@ -306,7 +294,8 @@ module _ (c : Context) (p : Probs) (q : Policy) {pol : List ℕ} {j : ℕ} {es w
           says =
               now-on (best-both c q′ p h k)
               ∙ then-done
-              (λ b s. then (bests p (drop (suc j) (childSearchers c q)) s) (λ bs s. done ((bestsOf pol m (take j es) (take j ws) ++ (b ∷ [])) ++ bs) s))
+              (λ b s. then (bests p (drop (suc j) (childSearchers c q)) s)
+              (λ bs s. done ((bestsOf pol m (take j es) (take j ws) ++ (b ∷ [])) ++ bs) s))
               refl
               ∙ ap (λ (n : ℕ). then (bests p (drop n (childSearchers c q)) (stateIn pol m₂))
               (λ bs s. done ((bestsOf pol m (take j es) (take j ws) ++ (both (seen pol m₂ e) (seen pol m₂ w) ∷ [])) ++ bs) s)) one

@@ -8,7 +8,6 @@ use native.Mathlib.Omega.{arith}
 use lib.ListN.{length, drop}
 use lib.Ieee.{Float}
 use Rattle.terms.specs.declared.Context.{Context}
-use Rattle.policies.specs.Policy.{Policy}
 use Rattle.policies.specs.Array.{policyAt}
 use Rattle.costs.specs.declared.DissatProb.{DissatProb}
 use Rattle.costs.specs.declared.DissatProb.the-variants as Prob
@@ -16,12 +15,11 @@ use Rattle.candidates.specs.declared.Candidate as node
 use Rattle.candidates.specs.declared.Made as code
 use Rattle.candidates.specs.declared.Made.the-variants as Made
 use Rattle.compilation.specs.Candidates.{Candidate, Cast, allCasts, castNo}
-use Rattle.compilation.specs.Candidates as definition
 use Rattle.compilation.specs.Tables as definition-tables
 use Rattle.compilation.specs.Tables.{Probs, probs}
-use Rattle.compilation.specs.Refusals.{M, State, Stored, Res, done, refused, then}
+use Rattle.compilation.specs.Refusals.{M, State, Stored, done, refused, then}
 use Rattle.compilation.specs.Insertion.{insertClosure}
-use Rattle.compilation.specs.Search.{Again, never, redo, search, without, wrapped, wrappedIfMade, castsOf, forEach, insertedIfTyped}
+use Rattle.compilation.specs.Search.{Again, search, without, wrapped, wrappedIfMade, castsOf, forEach, insertedIfTyped}
 use Rattle.laws.specs.Bodies.{againFor, againIn}
 use Rattle.laws.proofs.Steps.{then-done, then-refused, then-then, castsOf-none, castsOf-next, wrapped-never, wrapped-redo}
 use Rattle.nodes.specs.Views.{offered}
@@ -36,43 +34,21 @@ use Rattle.closure.specs.Closed.{answer, Closes}
 use Rattle.closure.proofs.Offering.{closed}
 use Rattle.recall.specs.declared.Out.{Out}
 use Rattle.recall.specs.declared.Out.the-variants as Out
-use Rattle.recall.specs.State.{Ready, Onward, Room, Paid, flagOf, stateIn, storedAll, slotTable}
+use Rattle.recall.specs.State.{Ready, Onward, Paid, flagOf, stateIn, storedAll, slotTable}
 use Rattle.recall.specs.Recalled.{tableAnswer, IsSlot, Searched, Tabled}
 use Rattle.recall.proofs.Growing.{onward-refl, onward-trans, onward-table, onward-holds, extends-onward, extends-stored}
-use Rattle.recall.proofs.Chains.{paid-refl, paid-after, room-kept, room-below, tabled-then, tabled-next, tabled-stop, tabled-done, tabled-refused}
+use Rattle.recall.proofs.Chains.{paid-refl, paid-after, room-kept, tabled-then, tabled-next, tabled-stop, tabled-done, tabled-refused}
 use Rattle.recall.proofs.Chains.{searched-next, searched-stop, closes-tabled}
 use Rattle.nodes.specs.Offers.{madeSeen}
 use Rattle.offers.specs.Offering.{SlotReady, InsertedCasts}
-use Rattle.search.specs.Searching.{Going, Doing, castOnce, OffersIfMade}
+use Rattle.search.specs.Searching.{Going, Doing, castOnce}
+use Rattle.search.proofs.Steps.{tabled-as, tabled-here, table-stays}
 
 -- ---- work on a table that is handed on
 
 -- the work memory stays as long as it was
 pub ready-long : {pol m₀ m : List ℕ} → Ready pol m₀ → Ready pol m → length m ≡ length m₀
 ready-long h k = k .nodes .long ∙ sym (h .nodes .long)
-
--- the same answer by another name
-pub tabled-is : {extra : ℕ} {res res′ : Res definition-tables.Table} {pol m₀ m : List ℕ} {o : Closed} → res ≡ res′ → Tabled extra res′ pol o m₀ m
-    → Tabled extra res pol o m₀ m
-tabled-is is h =
-    record {
-      says = is ∙ h .says;
-      ready = h .ready;
-      onward = h .onward;
-      table = h .table;
-      paid = h .paid;
-    }
-
--- no work
-pub tabled-here : {pol m : List ℕ} → Ready pol m → (c : Closed) → TableHolds m (c .table) → Tabled 0 (tableAnswer pol m c) pol c m m
-tabled-here {pol} {m} ready c table =
-    record {
-      says = refl;
-      ready = ready;
-      onward = onward-refl m;
-      table = table;
-      paid = λ e. paid-refl m;
-    }
 
 module _ {pol : List ℕ} {r : ℕ} {dissat : DissatProb} {c : Closed} {m₀ : List ℕ} (h : Doing pol r dissat c m₀) where
   -- after a refusal nothing is done
@@ -88,12 +64,7 @@ module _ {pol : List ℕ} {r : ℕ} {dissat : DissatProb} {c : Closed} {m₀ : L
   -- a step that does nothing
   pub passes : (k : definition-tables.Table → M definition-tables.Table) → ((t : definition-tables.Table) (s : State) → k t s ≡ done t s)
       → Tabled 0 (then (tableAnswer pol m₀ c) k) pol c m₀ m₀
-  unfolding then
-  passes k same = tabled-is (by-end (c .end) _ _) (tabled-here (h .ready) c (h .table))
-    where
-      by-end : (e : End) (t : definition-tables.Table) (s : State) → then (answer e t s) k ≡ answer e t s
-      by-end Done t s = same t s
-      by-end (Refused n) t s = refl
+  passes k same = table-stays c k (h .ready) (h .table) same
 
   -- a step that is refused
   pub refuses : (k : definition-tables.Table → M definition-tables.Table) {n : ℕ} → ((t : definition-tables.Table) (s : State) → k t s ≡ refused n)
@@ -151,10 +122,10 @@ module _ (C : Context) (sat : Float) {pol : List ℕ} {r : ℕ} {dissat : Dissat
       (λ t. wrapped C (probs sat dissat) (againIn C (policyAt pol r) (probs sat dissat)) (offered pol m₀ x) t)) pol o m₀ m₁
   wrapped-plain is =
       starts h _ e
-      (tabled-is
-      (ap (λ (d : DissatProb). wrapped C (probs sat dissat) (againFor C (policyAt pol r) (probs sat dissat) d) (offered pol m₀ x)
-      (seenTable pol m₀ (c .table)) (stateIn pol m₀)) is
-      ∙ wrapped-never C (probs sat dissat) (offered pol m₀ x) (seenTable pol m₀ (c .table)) (stateIn pol m₀))
+      (tabled-as
+      (sym (wrapped-never C (probs sat dissat) (offered pol m₀ x) (seenTable pol m₀ (c .table)) (stateIn pol m₀))
+      ∙ ap (λ (d : DissatProb). wrapped C (probs sat dissat) (againFor C (policyAt pol r) (probs sat dissat) d) (offered pol m₀ x)
+      (seenTable pol m₀ (c .table)) (stateIn pol m₀)) (sym is))
       (closes-tabled (h .ready) closes))
 
   pub wrapped-casts : {d : Float} → dissat ≡ Prob.Some d → {w : Closed} {m : List ℕ}
@@ -166,11 +137,11 @@ module _ (C : Context) (sat : Float) {pol : List ℕ} {r : ℕ} {dissat : Dissat
       (λ t. wrapped C (probs sat dissat) (againIn C (policyAt pol r) (probs sat dissat)) (offered pol m₀ x) t)) pol w m₀ m
   wrapped-casts is casts =
       starts h _ e
-      (tabled-is
-      (ap (λ (d : DissatProb). wrapped C (probs sat dissat) (againFor C (policyAt pol r) (probs sat dissat) d) (offered pol m₀ x)
-      (seenTable pol m₀ (c .table)) (stateIn pol m₀)) is
-      ∙ wrapped-redo C (probs sat dissat) (search C (policyAt pol r) (without (probs sat dissat))) (offered pol m₀ x)
+      (tabled-as
+      (sym (wrapped-redo C (probs sat dissat) (search C (policyAt pol r) (without (probs sat dissat))) (offered pol m₀ x)
       (seenTable pol m₀ (c .table)) (stateIn pol m₀))
+      ∙ ap (λ (d : DissatProb). wrapped C (probs sat dissat) (againFor C (policyAt pol r) (probs sat dissat) d) (offered pol m₀ x)
+      (seenTable pol m₀ (c .table)) (stateIn pol m₀)) (sym is))
       (tabled-then (closes-tabled (h .ready) closes)
       (λ t. castsOf C (probs sat dissat) (search C (policyAt pol r) (without (probs sat dissat))) allCasts t) casts))
 
@@ -185,7 +156,7 @@ module _ (C : Context) (p : Probs) (g : Again) {pol : List ℕ} {r : ℕ} {dissa
       → Tabled 0 (then (tableAnswer pol m₀ c) (λ t. wrapped C p g (offered pol m₀ y) t)) pol o m₀ m
       → Tabled 0 (then (tableAnswer pol m₀ c) (λ t. wrappedIfMade C p g (madeSeen pol m₀ x) t)) pol o m₀ m
   made-wrapped is k =
-      tabled-is (ap (λ (x : code.Made). then (tableAnswer pol m₀ c) (λ t. wrappedIfMade C p g (madeSeen pol m₀ x) t)) is) k
+      tabled-as (ap (λ (x : code.Made). then (tableAnswer pol m₀ c) (λ t. wrappedIfMade C p g (madeSeen pol m₀ x) t)) (sym is)) k
 
   pub passed-over : x ≡ Made.PassedOver → Tabled 0 (then (tableAnswer pol m₀ c) (λ t. wrappedIfMade C p g (madeSeen pol m₀ x) t)) pol c m₀ m₀
   passed-over is =
@@ -200,17 +171,6 @@ module _ (C : Context) (p : Probs) (g : Again) {pol : List ℕ} {r : ℕ} {dissa
       (λ t s. ap (λ (x : code.Made). wrappedIfMade C p g (madeSeen pol m₀ x) t s) is) e
 
 -- ---- one cast
-
--- the search without dissatisfaction has room
-pub going-without : {pol : List ℕ} {r : ℕ} {dissat : DissatProb} {m : List ℕ} → Going 1 pol r dissat m → flagOf dissat ≡ 1 → Going 0 pol r Prob.None m
-going-without {pol} {r} {dissat} {m} h flag =
-    record {
-      classed = h .classed;
-      named = h .named;
-      formed = h .formed;
-      ready = h .ready;
-      room = room-below (policyAt pol r) (policyAt pol r) dissat Prob.None m (omega (arith, flag)) (h .room);
-    }
 
 -- the casts of a slot's entries
 inserted-tabled : {pol m₀ m : List ℕ} {C : Context} {p : Probs} {s number : ℕ} {t : Table} {o : Closed} → Ready pol m₀
@@ -228,7 +188,8 @@ inserted-tabled {pol} {m₀} {m} {o = o} ready casts =
       paid = λ e. omega (arith, casts .extends .rows, casts .extends .tables .count);
     }
 
-module _ (C : Context) (p : Probs) (again : M definition-tables.Table) (number : ℕ) {pol m₀ m₁ : List ℕ} {t : Table} {out : Out} (ready : Ready pol m₀)
+module _ (C : Context) (p : Probs) (again : M definition-tables.Table) (number : ℕ) {pol m₀ m₁ : List ℕ} {t : Table} {out : Out}
+    (ready : Ready pol m₀)
     (table : TableHolds m₀ t) (h : Searched (again (stateIn pol m₀)) pol out m₀ m₁) where
   pub cast-refused : {n : ℕ} → out ≡ Out.Refused n
       → Tabled 0 (castOnce C p again (castNo number) (seenTable pol m₀ t) (stateIn pol m₀)) pol (closed t (Refused n)) m₀ m₁
@@ -246,9 +207,9 @@ module _ (C : Context) (p : Probs) (again : M definition-tables.Table) (number :
       → Tabled 0 (castOnce C p again (castNo number) (seenTable pol m₀ t) (stateIn pol m₀)) pol o m₀ m
   cast-done {s} is casts =
       searched-next h _ s is
-      (tabled-is
+      (tabled-as
       (ap (λ (t : definition-tables.Table). forEach (λ x. insertedIfTyped C p (castNo number x)) (slotTable pol m₁ s) t (stateIn pol m₁))
-      (sym (onward-table ready (h .onward) t table)))
+      (onward-table ready (h .onward) t table))
       (inserted-tabled (h .ready) casts))
 
 -- ---- each cast in turn

@@ -102,7 +102,8 @@ loop-again c =
     let args = c .before .before .before .before .before .before .before .before .before .before .before .before .before .before .args in
     let pre = c .before .before .before .before .before .before .before .before .before .before .before .before .before .before .pre in (
       entries-go-on (args .context) (probs (args .sat) (args .dissat)) (pre .0) (loop .inv .0)
-          (entry-was (pre .0) (loop .inv .0 .extends) (loop .j) (entry .ensures)) (omega (arith, loop-test .taken, loop .inv .1 .0)) (insert-cast .ensures)
+          (entry-was (pre .0) (loop .inv .0 .extends) (loop .j) (entry .ensures)) (omega (arith, loop-test .taken, loop .inv .1 .0))
+          (insert-cast .ensures)
           (c .enum-told .given .1),
       (loop .inv .1 .0, omega (arith, loop-test .taken)),
     )

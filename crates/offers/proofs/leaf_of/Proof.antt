@@ -1,6 +1,7 @@
 -- `offers::leaf_of` meets its contract: each kind makes its leaf. Assumes nothing.
 use borrow.Author.Needs.{needs}
-use Rattle.offers.proofs.Leaves.{true-leaf, after-leaf, older-leaf, sha256-leaf, hash256-leaf, ripemd160-leaf, hash160-leaf, false-leaf}
+use Rattle.terms.specs.Leaves.{After, Older, Sha256, Hash256, Ripemd160, Hash160}
+use Rattle.offers.proofs.Leaves.{true-leaf, lock-leaf, hash-leaf, false-leaf}
 use Rattle.offers.proofs.leaf_of.Statement.{statement}
 use Rattle.offers.proofs.leaf_of.Tie as tie
 
@@ -38,22 +39,22 @@ returns : tie.Need-returns
 returns c = true-leaf (c .before .match .keys1) (c .of-true .ensures)
 
 returns-2 : tie.Need-returns-2
-returns-2 c = after-leaf (c .before .match .keys2) (c .after .ensures)
+returns-2 c = lock-leaf After (c .before .match .keys2) (c .after .ensures)
 
 returns-3 : tie.Need-returns-3
-returns-3 c = older-leaf (c .before .match .keys3) (c .older .ensures)
+returns-3 c = lock-leaf Older (c .before .match .keys3) (c .older .ensures)
 
 returns-4 : tie.Need-returns-4
-returns-4 c = sha256-leaf (c .before .match .keys4) (c .sha256 .ensures)
+returns-4 c = hash-leaf Sha256 (c .before .match .keys4) (c .sha256 .ensures)
 
 returns-5 : tie.Need-returns-5
-returns-5 c = hash256-leaf (c .before .match .keys5) (c .hash256 .ensures)
+returns-5 c = hash-leaf Hash256 (c .before .match .keys5) (c .hash256 .ensures)
 
 returns-6 : tie.Need-returns-6
-returns-6 c = ripemd160-leaf (c .before .match .keys6) (c .ripemd160 .ensures)
+returns-6 c = hash-leaf Ripemd160 (c .before .match .keys6) (c .ripemd160 .ensures)
 
 returns-7 : tie.Need-returns-7
-returns-7 c = hash160-leaf (c .before .match .keys7) (c .hash160 .ensures)
+returns-7 c = hash-leaf Hash160 (c .before .match .keys7) (c .hash160 .ensures)
 
 returns-8 : tie.Need-returns-8
 returns-8 c = false-leaf (c .before .match .rest) (c .of-false .ensures)

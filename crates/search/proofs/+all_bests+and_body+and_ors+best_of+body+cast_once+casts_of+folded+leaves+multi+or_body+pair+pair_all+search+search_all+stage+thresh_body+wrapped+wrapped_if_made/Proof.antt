@@ -1,86 +1,105 @@
+-- The functions that call one another in a search meet their contracts. What falls from call to call is `rank`: first the policy's load, then
+-- the function's place. An answer names the places of the code that it speaks of (`start` is the function's entry), and then cites lemmas.
+-- Assumes nothing.
 use borrow.Author.Needs.{needs}
 use mathlib.Core.Path.{refl, sym, _≡_}
-use Rattle.search.proofs.Asking.{going-more}
-use Rattle.search.proofs.Wrapping.{ready-long, stops, doing-next, doing-going, made-wrapped, passed-over, missing-refused, CastsOn, wrapped-doing, wrapped-plain, wrapped-casts, flag-some, going-without, cast-refused, cast-ready, cast-done, casts-begin, casts-going, casts-end, casts-refused, casts-go-on}
-use Rattle.search.proofs.Threshes.{searched-slot, BestsSoFar, bests-begin, best-found, best-missing, best-refused}
-use Rattle.search.proofs.Tabling.{fold-stays, thresh-offers, body-thresh}
-use Rattle.search.proofs.ThreshAnswers.{falls-to, going-small, doing-small, multi-yes, multi-no, fold-falls-to, fold-going, folded-no, folded-yes, gaining-asks, made-asks, made-doing, gaining-less, thresh-no}
-use Rattle.search.proofs.Ranks.{rank, below}
 use native.Mathlib.Omega.{arith}
 use lib.ListN.{length-set, length, take}
 use Prim.Native.Nat.{ℕ, _<_, _-_, _≤_}
 use borrow.Fn.Kinds.{In}
 use borrow.Fn.PlainCycle.{Measures, is, falls, and}
-use Rattle.search.proofs.+all_bests+and_body+and_ors+best_of+body+cast_once+casts_of+folded+leaves+multi+or_body+pair+pair_all+search+search_all+stage+thresh_body+wrapped+wrapped_if_made.{statement}
-use Rattle.search.proofs.+all_bests+and_body+and_ors+best_of+body+cast_once+casts_of+folded+leaves+multi+or_body+pair+pair_all+search+search_all+stage+thresh_body+wrapped+wrapped_if_made.Tie.{close}
 use Rattle.compilation.specs.Tables.{probs}
 use Rattle.laws.specs.Bodies.{againIn}
 use Rattle.policies.specs.Array.{policyAt}
-use Rattle.search.proofs.StageAnswers.{noAsk, noPairing, rank-falls, ask-falls}
-use Rattle.search.proofs.Staging.{Asking, asking-begins, asking-ends, asking-going, asking-refused, asking-goes-on, stage-refused, stage-doing, stage-paired, stage-done}
-use Rattle.search.proofs.Pairing.{PairOn, pair-begins, pair-makes, pair-offers, pair-goes-on, pair-ends, PairAllOn, pair-all-begins, pair-all-ends, pair-all-pairs, pair-all-goes-on}
-use Rattle.search.proofs.BestAnswers.{again-rank, few-children, child-rank, child-going, first-refused, second-going, second-refused, both-found, all-found}
-use Rattle.policies.specs.Forms.{leftWeightOf, rightWeightOf}
-use Rattle.writing.specs.WellFormed.{IsU32}
-use Rattle.search.proofs.BodyAnswers.{goes-down, named-low, head-kind, head-other, head-or, head-thresh, head-leaf, head-left-low, head-right-low, thresh-k-low, is-pk-h, is-pk-k, and-under, or-under, and-asks-lighter, or-asks-lighter, and-or-asks-lighter, and-pairings-placed, or-pairings-placed, and-or-pairings-placed, weights-left, weights-right, back, leaf-key, tabled-one, or-weights}
-use Rattle.search.proofs.Bodies.{empty-doing, search-found, search-made, body-key, body-leaf, body-and, body-or, and-ors-plain, and-ors-and, all-or-asks, all-or-pairings}
+use Rattle.nodes.proofs.Leaves.{pk-h-offers, pk-k-offers}
+use Rattle.policies.proofs.Forms.{two-and, two-or}
+use Rattle.compilation.specs.Search as definition
+use Rattle.search.proofs.Asking.{going-more, going-again}
+use Rattle.search.proofs.Wrapping.{ready-long, stops, doing-next, doing-going, made-wrapped, passed-over}
+use Rattle.search.proofs.Wrapping.{missing-refused, CastsOn, wrapped-doing, wrapped-plain, wrapped-casts}
+use Rattle.search.proofs.Wrapping.{flag-some, cast-refused, cast-ready, cast-done, casts-begin, casts-going}
+use Rattle.search.proofs.Wrapping.{casts-end, casts-refused, casts-go-on}
+use Rattle.search.proofs.Threshes.{searched-slot, BestsSoFar, bests-begin, best-found, best-missing, best-refused}
+use Rattle.search.proofs.Tabling.{fold-stays, thresh-offers, body-thresh}
+use Rattle.search.proofs.ThreshAnswers.{going-small, doing-small, multi-yes, multi-no, fold-falls-to, fold-going}
+use Rattle.search.proofs.ThreshAnswers.{folded-no, folded-yes, gaining-asks, made-asks, made-doing, gaining-less}
+use Rattle.search.proofs.ThreshAnswers.{thresh-no}
+use Rattle.search.proofs.Ranks.{rank, below}
+use Rattle.search.proofs.StageAnswers.{noAsk, noPairing, ask-falls}
+use Rattle.search.proofs.Staging.{Asking, asking-begins, asking-ends, asking-going, asking-refused}
+use Rattle.search.proofs.Staging.{asking-goes-on, stage-refused, stage-doing, stage-paired, stage-done}
+use Rattle.search.proofs.Pairing.{PairOn, pair-begins, pair-makes, pair-offers, pair-goes-on, pair-ends}
+use Rattle.search.proofs.Pairing.{PairAllOn, pair-all-begins, pair-all-ends, pair-all-pairs, pair-all-goes-on}
+use Rattle.search.proofs.BestAnswers.{again-rank, few-children, child-rank, child-going, first-refused}
+use Rattle.search.proofs.BestAnswers.{second-going, second-refused, both-found, all-found}
+use Rattle.search.proofs.BodyAnswers.{named-low, head-kind, head-other, head-or, head-thresh, head-leaf}
+use Rattle.search.proofs.BodyAnswers.{head-low, thresh-k-low, offers-as, two-under, and-asks-lighter}
+use Rattle.search.proofs.BodyAnswers.{or-asks-lighter, and-or-asks-lighter, and-pairings-placed}
+use Rattle.search.proofs.BodyAnswers.{or-pairings-placed, and-or-pairings-placed, weights-left, weights-right}
+use Rattle.search.proofs.BodyAnswers.{back, leaf-key, tabled-one, or-weights}
+use Rattle.search.proofs.Bodies.{empty-doing, search-found, search-made, body-key, body-leaf, body-and, body-or}
+use Rattle.search.proofs.Bodies.{and-ors-plain, and-ors-and, all-or-asks, all-or-pairings}
+use Rattle.search.proofs as own
+use own.+all_bests+and_body+and_ors+best_of+body+cast_once+casts_of+folded+leaves+multi+or_body+pair+pair_all+search+search_all+stage+thresh_body+wrapped+wrapped_if_made as cycle
+use cycle.{statement}
+use cycle.Tie.{close}
 use Rattle.search.proofs.all_bests.Reads as all-bests
 use Rattle.search.proofs.all_bests.Kinds as all-bests-kinds
-use Rattle.search.proofs.+all_bests+and_body+and_ors+best_of+body+cast_once+casts_of+folded+leaves+multi+or_body+pair+pair_all+search+search_all+stage+thresh_body+wrapped+wrapped_if_made.Lts-all_bests as all-bests-lts
+use cycle.Lts-all_bests as all-bests-lts
 use Rattle.search.proofs.and_body.Reads as and-body
 use Rattle.search.proofs.and_body.Kinds as and-body-kinds
-use Rattle.search.proofs.+all_bests+and_body+and_ors+best_of+body+cast_once+casts_of+folded+leaves+multi+or_body+pair+pair_all+search+search_all+stage+thresh_body+wrapped+wrapped_if_made.Lts-and_body as and-body-lts
+use cycle.Lts-and_body as and-body-lts
 use Rattle.search.proofs.and_ors.Reads as and-ors
 use Rattle.search.proofs.and_ors.Kinds as and-ors-kinds
-use Rattle.search.proofs.+all_bests+and_body+and_ors+best_of+body+cast_once+casts_of+folded+leaves+multi+or_body+pair+pair_all+search+search_all+stage+thresh_body+wrapped+wrapped_if_made.Lts-and_ors as and-ors-lts
+use cycle.Lts-and_ors as and-ors-lts
 use Rattle.search.proofs.best_of.Reads as best-of
 use Rattle.search.proofs.best_of.Kinds as best-of-kinds
-use Rattle.search.proofs.+all_bests+and_body+and_ors+best_of+body+cast_once+casts_of+folded+leaves+multi+or_body+pair+pair_all+search+search_all+stage+thresh_body+wrapped+wrapped_if_made.Lts-best_of as best-of-lts
+use cycle.Lts-best_of as best-of-lts
 use Rattle.search.proofs.body.Reads as body
 use Rattle.search.proofs.body.Kinds as body-kinds
-use Rattle.search.proofs.+all_bests+and_body+and_ors+best_of+body+cast_once+casts_of+folded+leaves+multi+or_body+pair+pair_all+search+search_all+stage+thresh_body+wrapped+wrapped_if_made.Lts-body as body-lts
+use cycle.Lts-body as body-lts
 use Rattle.search.proofs.cast_once.Reads as cast-once
 use Rattle.search.proofs.cast_once.Kinds as cast-once-kinds
-use Rattle.search.proofs.+all_bests+and_body+and_ors+best_of+body+cast_once+casts_of+folded+leaves+multi+or_body+pair+pair_all+search+search_all+stage+thresh_body+wrapped+wrapped_if_made.Lts-cast_once as cast-once-lts
+use cycle.Lts-cast_once as cast-once-lts
 use Rattle.search.proofs.casts_of.Reads as casts-of
 use Rattle.search.proofs.casts_of.Kinds as casts-of-kinds
-use Rattle.search.proofs.+all_bests+and_body+and_ors+best_of+body+cast_once+casts_of+folded+leaves+multi+or_body+pair+pair_all+search+search_all+stage+thresh_body+wrapped+wrapped_if_made.Lts-casts_of as casts-of-lts
+use cycle.Lts-casts_of as casts-of-lts
 use Rattle.search.proofs.folded.Reads as folded
 use Rattle.search.proofs.folded.Kinds as folded-kinds
-use Rattle.search.proofs.+all_bests+and_body+and_ors+best_of+body+cast_once+casts_of+folded+leaves+multi+or_body+pair+pair_all+search+search_all+stage+thresh_body+wrapped+wrapped_if_made.Lts-folded as folded-lts
+use cycle.Lts-folded as folded-lts
 use Rattle.search.proofs.leaves.Reads as leaves
 use Rattle.search.proofs.leaves.Kinds as leaves-kinds
-use Rattle.search.proofs.+all_bests+and_body+and_ors+best_of+body+cast_once+casts_of+folded+leaves+multi+or_body+pair+pair_all+search+search_all+stage+thresh_body+wrapped+wrapped_if_made.Lts-leaves as leaves-lts
+use cycle.Lts-leaves as leaves-lts
 use Rattle.search.proofs.multi.Reads as multi
 use Rattle.search.proofs.multi.Kinds as multi-kinds
-use Rattle.search.proofs.+all_bests+and_body+and_ors+best_of+body+cast_once+casts_of+folded+leaves+multi+or_body+pair+pair_all+search+search_all+stage+thresh_body+wrapped+wrapped_if_made.Lts-multi as multi-lts
+use cycle.Lts-multi as multi-lts
 use Rattle.search.proofs.or_body.Reads as or-body
 use Rattle.search.proofs.or_body.Kinds as or-body-kinds
-use Rattle.search.proofs.+all_bests+and_body+and_ors+best_of+body+cast_once+casts_of+folded+leaves+multi+or_body+pair+pair_all+search+search_all+stage+thresh_body+wrapped+wrapped_if_made.Lts-or_body as or-body-lts
+use cycle.Lts-or_body as or-body-lts
 use Rattle.search.proofs.pair.Reads as pair
 use Rattle.search.proofs.pair.Kinds as pair-kinds
-use Rattle.search.proofs.+all_bests+and_body+and_ors+best_of+body+cast_once+casts_of+folded+leaves+multi+or_body+pair+pair_all+search+search_all+stage+thresh_body+wrapped+wrapped_if_made.Lts-pair as pair-lts
+use cycle.Lts-pair as pair-lts
 use Rattle.search.proofs.pair_all.Reads as pair-all
 use Rattle.search.proofs.pair_all.Kinds as pair-all-kinds
-use Rattle.search.proofs.+all_bests+and_body+and_ors+best_of+body+cast_once+casts_of+folded+leaves+multi+or_body+pair+pair_all+search+search_all+stage+thresh_body+wrapped+wrapped_if_made.Lts-pair_all as pair-all-lts
+use cycle.Lts-pair_all as pair-all-lts
 use Rattle.search.proofs.search.Reads as search′
 use Rattle.search.proofs.search.Kinds as search-kinds
-use Rattle.search.proofs.+all_bests+and_body+and_ors+best_of+body+cast_once+casts_of+folded+leaves+multi+or_body+pair+pair_all+search+search_all+stage+thresh_body+wrapped+wrapped_if_made.Lts-search as search-lts
+use cycle.Lts-search as search-lts
 use Rattle.search.proofs.search_all.Reads as search-all
 use Rattle.search.proofs.search_all.Kinds as search-all-kinds
-use Rattle.search.proofs.+all_bests+and_body+and_ors+best_of+body+cast_once+casts_of+folded+leaves+multi+or_body+pair+pair_all+search+search_all+stage+thresh_body+wrapped+wrapped_if_made.Lts-search_all as search-all-lts
+use cycle.Lts-search_all as search-all-lts
 use Rattle.search.proofs.stage.Reads as stage
 use Rattle.search.proofs.stage.Kinds as stage-kinds
-use Rattle.search.proofs.+all_bests+and_body+and_ors+best_of+body+cast_once+casts_of+folded+leaves+multi+or_body+pair+pair_all+search+search_all+stage+thresh_body+wrapped+wrapped_if_made.Lts-stage as stage-lts
+use cycle.Lts-stage as stage-lts
 use Rattle.search.proofs.thresh_body.Reads as thresh-body
 use Rattle.search.proofs.thresh_body.Kinds as thresh-body-kinds
-use Rattle.search.proofs.+all_bests+and_body+and_ors+best_of+body+cast_once+casts_of+folded+leaves+multi+or_body+pair+pair_all+search+search_all+stage+thresh_body+wrapped+wrapped_if_made.Lts-thresh_body as thresh-body-lts
+use cycle.Lts-thresh_body as thresh-body-lts
 use Rattle.search.proofs.wrapped.Reads as wrapped
 use Rattle.search.proofs.wrapped.Kinds as wrapped-kinds
-use Rattle.search.proofs.+all_bests+and_body+and_ors+best_of+body+cast_once+casts_of+folded+leaves+multi+or_body+pair+pair_all+search+search_all+stage+thresh_body+wrapped+wrapped_if_made.Lts-wrapped as wrapped-lts
+use cycle.Lts-wrapped as wrapped-lts
 use Rattle.search.proofs.wrapped_if_made.Reads as wrapped-if-made
 use Rattle.search.proofs.wrapped_if_made.Kinds as wrapped-if-made-kinds
-use Rattle.search.proofs.+all_bests+and_body+and_ors+best_of+body+cast_once+casts_of+folded+leaves+multi+or_body+pair+pair_all+search+search_all+stage+thresh_body+wrapped+wrapped_if_made.Lts-wrapped_if_made as wrapped-if-made-lts
+use cycle.Lts-wrapped_if_made as wrapped-if-made-lts
 use Rattle.candidates.proofs.Candidate.pk_h.Reads as pk-h-reads
 use Rattle.candidates.proofs.Candidate.pk_k.Reads as pk-k-reads
 use Rattle.choice.proofs.all_keys.Reads as all-keys-reads
@@ -109,7 +128,8 @@ use Rattle.stages.proofs.and_or_pairings.Reads as and-or-pairings-reads
 use Rattle.stages.proofs.and_pairings.Reads as and-pairings-reads
 use Rattle.stages.proofs.or_asks.Reads as or-asks-reads
 use Rattle.stages.proofs.or_pairings.Reads as or-pairings-reads
-use Rattle.compilation.specs.Search as definition
+
+-- ---- what falls
 
 abbrev μ-all-bests : Measures 2 all-bests-kinds.ps ℕ
 μ-all-bests κs a = rank (a .1 .0 .now) (a .1 .1 .1 .0) (a .1 .1 .1 .1 .0) 13
@@ -167,6 +187,8 @@ abbrev μ-wrapped : Measures 2 wrapped-kinds.ps ℕ
 
 abbrev μ-wrapped-if-made : Measures 2 wrapped-if-made-kinds.ps ℕ
 μ-wrapped-if-made κs a = rank (a .1 .0 .now) (a .1 .1 .1 .0) (a .1 .1 .1 .1 .1 .0) 9
+
+-- ---- each function at a rank, and below it
 
 abbrev all-bests-at : ℕ → In 2 all-bests-kinds.ps
 all-bests-at t = and 2 all-bests-kinds.ps (is 2 all-bests-kinds.ps μ-all-bests t) all-bests.Pre
@@ -287,195 +309,222 @@ wrapped-below t = and 2 wrapped-kinds.ps (falls 2 wrapped-kinds.ps _<_ μ-wrappe
 
 abbrev wrapped-if-made-at : ℕ → In 2 wrapped-if-made-kinds.ps
 wrapped-if-made-at t =
-    and
-    2
-    wrapped-if-made-kinds.ps
-    (is 2 wrapped-if-made-kinds.ps μ-wrapped-if-made t)
-    wrapped-if-made.Pre
+    and 2 wrapped-if-made-kinds.ps (is 2 wrapped-if-made-kinds.ps μ-wrapped-if-made t) wrapped-if-made.Pre
 
 abbrev wrapped-if-made-below : ℕ → In 2 wrapped-if-made-kinds.ps
 wrapped-if-made-below t =
-    and
-    2
-    wrapped-if-made-kinds.ps
-    (falls 2 wrapped-if-made-kinds.ps _<_ μ-wrapped-if-made t)
-    wrapped-if-made.Pre
+    and 2 wrapped-if-made-kinds.ps (falls 2 wrapped-if-made-kinds.ps _<_ μ-wrapped-if-made t) wrapped-if-made.Pre
+
+-- ---- all_bests
 
 abbrev all-bests-Inv-loop : all-bests-lts.InvT-loop
-all-bests-Inv-loop context pol work₀ r n child-sat child-dissat es₀ ws₀ j₀ work es ws j = BestsSoFar context (probs child-sat child-dissat) pol (policyAt pol r) j es ws work₀ work × ((j ≤ n) × ((length es ≡ 16) × (length ws ≡ 16)))
+all-bests-Inv-loop context pol work₀ r n child-sat child-dissat es₀ ws₀ j₀ work es ws j =
+    BestsSoFar context (probs child-sat child-dissat) pol (policyAt pol r) j es ws work₀ work
+    × ((j ≤ n) × ((length es ≡ 16) × (length ws ≡ 16)))
 
 abbrev all-bests-μ-loop : all-bests-lts.MeasureT-loop
 all-bests-μ-loop context pol work₀ r n child-sat child-dissat es₀ ws₀ j₀ work es ws j = n - j
 
-all-bests-loop-holds : (t : ℕ) → all-bests-lts.Need-loop-holds (
-  child-reads.Asked,
-  child-reads.Learnt,
-  best-of-below t,
-  best-of.Post,
-) (all-bests-at t) all-bests.Post all-bests-Inv-loop all-bests-μ-loop
-all-bests-loop-holds t c = (bests-begin (c .before .before .args .context) (probs (c .before .before .args .child-sat) (c .before .before .args .child-dissat)) (policyAt (c .before .before .args .pol .now) (c .before .before .args .r)) _ _ (c .before .before .pre .1 .0 .ready), (omega arith, (refl, refl)))
+abbrev all-bests-calls : ℕ → all-bests-lts.Claims
+all-bests-calls t = (child-reads.Asked, child-reads.Learnt, best-of-below t, best-of.Post)
 
-all-bests-child-requires : (t : ℕ) → all-bests-lts.Need-child-requires (
-  child-reads.Asked,
-  child-reads.Learnt,
-  best-of-below t,
-  best-of.Post,
-) (all-bests-at t) all-bests.Post all-bests-Inv-loop all-bests-μ-loop
+all-bests-loop-holds : (t : ℕ) →
+    all-bests-lts.Need-loop-holds (all-bests-calls t) (all-bests-at t) all-bests.Post all-bests-Inv-loop all-bests-μ-loop
+all-bests-loop-holds t c =
+    let start = c .before .before in
+    let args = start .args in
+    let pre = start .pre in (
+      bests-begin (args .context) (probs (args .child-sat) (args .child-dissat)) (policyAt (args .pol .now) (args .r)) _ _
+          (pre .1 .0 .ready),
+      (omega arith, (refl, refl)),
+    )
+
+all-bests-child-requires : (t : ℕ) →
+    all-bests-lts.Need-child-requires (all-bests-calls t) (all-bests-at t) all-bests.Post all-bests-Inv-loop all-bests-μ-loop
 all-bests-child-requires t c κs = tt
 
-all-bests-best-of-requires : (t : ℕ) → all-bests-lts.Need-best-of-requires (
-  child-reads.Asked,
-  child-reads.Learnt,
-  best-of-below t,
-  best-of.Post,
-) (all-bests-at t) all-bests.Post all-bests-Inv-loop all-bests-μ-loop
-all-bests-best-of-requires t c κs = (below (child-rank (c .before .before .before .before .before .before .args .context) (probs (c .before .before .before .before .before .before .args .child-sat) (c .before .before .before .before .before .before .args .child-dissat)) (c .before .before .before .before .before .before .pre .1 .0) (c .before .before .before .before .before .before .pre .1 .1 .1) (c .before .before .before .loop .inv .0) (c .before .before .loop-test .taken) (c .before .child .ensures) (c .before .before .before .before .before .before .args .child-dissat)) (c .before .before .before .before .before .before .pre .0), child-going (c .before .before .before .before .before .before .args .context) (probs (c .before .before .before .before .before .before .args .child-sat) (c .before .before .before .before .before .before .args .child-dissat)) (c .before .before .before .before .before .before .pre .1 .0) (c .before .before .before .before .before .before .pre .1 .1 .1) (c .before .before .before .loop .inv .0) (c .before .before .loop-test .taken) (c .before .child .ensures) (c .before .before .before .before .before .before .args .child-dissat))
+all-bests-best-of-requires : (t : ℕ) →
+    all-bests-lts.Need-best-of-requires (all-bests-calls t) (all-bests-at t) all-bests.Post all-bests-Inv-loop all-bests-μ-loop
+all-bests-best-of-requires t c κs =
+    let child = c .before .child in
+    let loop-test = c .before .before .loop-test in
+    let loop = c .before .before .before .loop in
+    let start = c .before .before .before .before .before .before in
+    let args = start .args in
+    let pre = start .pre in
+    let p = probs (args .child-sat) (args .child-dissat) in (
+      below
+          (child-rank (args .context) p (pre .1 .0) (pre .1 .1 .1) (loop .inv .0) (loop-test .taken) (child .ensures)
+          (args .child-dissat)) (pre .0),
+      child-going (args .context) p (pre .1 .0) (pre .1 .1 .1) (loop .inv .0) (loop-test .taken) (child .ensures)
+          (args .child-dissat),
+    )
 
-all-bests-enum-known-no : (t : ℕ) → all-bests-lts.Need-enum-known-no (
-  child-reads.Asked,
-  child-reads.Learnt,
-  best-of-below t,
-  best-of.Post,
-) (all-bests-at t) all-bests.Post all-bests-Inv-loop all-bests-μ-loop
+all-bests-enum-known-no : (t : ℕ) →
+    all-bests-lts.Need-enum-known-no (all-bests-calls t) (all-bests-at t) all-bests.Post all-bests-Inv-loop all-bests-μ-loop
 all-bests-enum-known-no t c = search needs
 
-all-bests-same-length : (t : ℕ) → all-bests-lts.Need-same-length (
-  child-reads.Asked,
-  child-reads.Learnt,
-  best-of-below t,
-  best-of.Post,
-) (all-bests-at t) all-bests.Post all-bests-Inv-loop all-bests-μ-loop
+all-bests-same-length : (t : ℕ) →
+    all-bests-lts.Need-same-length (all-bests-calls t) (all-bests-at t) all-bests.Post all-bests-Inv-loop all-bests-μ-loop
 all-bests-same-length t c = search needs
 
-all-bests-returns : (t : ℕ) → all-bests-lts.Need-returns (
-  child-reads.Asked,
-  child-reads.Learnt,
-  best-of-below t,
-  best-of.Post,
-) (all-bests-at t) all-bests.Post all-bests-Inv-loop all-bests-μ-loop
-all-bests-returns t c = first-refused (c .before .before .before .before .before .before .before .before .before .before .before .before .args .context) (probs (c .before .before .before .before .before .before .before .before .before .before .before .before .args .child-sat) (c .before .before .before .before .before .before .before .before .before .before .before .before .args .child-dissat)) (c .before .before .before .before .before .before .before .before .before .before .before .before .pre .1 .0) (c .before .before .before .before .before .before .before .before .before .before .before .before .pre .1 .1 .1) (c .before .before .before .before .before .before .before .before .before .loop .inv .0) (c .before .before .before .before .before .before .before .before .loop-test .taken) (c .before .before .before .before .before .before .before .child .ensures) (c .before .before .before .before .before .best-of .ensures) (c .before .no .given .1) _ _
+all-bests-returns : (t : ℕ) →
+    all-bests-lts.Need-returns (all-bests-calls t) (all-bests-at t) all-bests.Post all-bests-Inv-loop all-bests-μ-loop
+all-bests-returns t c =
+    let no = c .before .no in
+    let best-of = c .before .before .before .before .before .best-of in
+    let at-child = c .before .before .before .before .before .before .before in
+    let child = at-child .child in
+    let loop-test = at-child .before .loop-test in
+    let loop = at-child .before .before .loop in
+    let start = at-child .before .before .before .before .before in
+    let args = start .args in
+    let pre = start .pre in
+    first-refused (args .context) (probs (args .child-sat) (args .child-dissat)) (pre .1 .0) (pre .1 .1 .1) (loop .inv .0)
+    (loop-test .taken) (child .ensures) (best-of .ensures) (no .given .1) _ _
 
-all-bests-enum-known-e : (t : ℕ) → all-bests-lts.Need-enum-known-e (
-  child-reads.Asked,
-  child-reads.Learnt,
-  best-of-below t,
-  best-of.Post,
-) (all-bests-at t) all-bests.Post all-bests-Inv-loop all-bests-μ-loop
+all-bests-enum-known-e : (t : ℕ) →
+    all-bests-lts.Need-enum-known-e (all-bests-calls t) (all-bests-at t) all-bests.Post all-bests-Inv-loop all-bests-μ-loop
 all-bests-enum-known-e t c = search needs
 
-all-bests-mul-es : (t : ℕ) → all-bests-lts.Need-mul-es (
-  child-reads.Asked,
-  child-reads.Learnt,
-  best-of-below t,
-  best-of.Post,
-) (all-bests-at t) all-bests.Post all-bests-Inv-loop all-bests-μ-loop
-all-bests-mul-es t c = omega (arith, few-children (c .before .before .before .before .before .before .before .before .before .before .before .before .pre .1 .0) (c .before .before .before .before .before .before .before .before .before .before .before .before .pre .1 .1 .0) (c .before .before .before .before .before .before .before .before .before .before .before .before .pre .1 .1 .1), c .before .before .before .before .before .before .before .before .loop-test .taken)
+all-bests-mul-es : (t : ℕ) →
+    all-bests-lts.Need-mul-es (all-bests-calls t) (all-bests-at t) all-bests.Post all-bests-Inv-loop all-bests-μ-loop
+all-bests-mul-es t c =
+    let at-loop-test = c .before .before .before .before .before .before .before .before in
+    let loop-test = at-loop-test .loop-test in
+    let pre = at-loop-test .before .before .before .before .pre in
+    omega (arith, few-children (pre .1 .0) (pre .1 .1 .0) (pre .1 .1 .1), loop-test .taken)
 
-all-bests-array-write-es : (t : ℕ) → all-bests-lts.Need-array-write-es (
-  child-reads.Asked,
-  child-reads.Learnt,
-  best-of-below t,
-  best-of.Post,
-) (all-bests-at t) all-bests.Post all-bests-Inv-loop all-bests-μ-loop
-all-bests-array-write-es t c = omega (arith, few-children (c .before .before .before .before .before .before .before .before .before .before .before .before .pre .1 .0) (c .before .before .before .before .before .before .before .before .before .before .before .before .pre .1 .1 .0) (c .before .before .before .before .before .before .before .before .before .before .before .before .pre .1 .1 .1), c .before .before .before .before .before .before .before .before .loop-test .taken)
+all-bests-array-write-es : (t : ℕ) →
+    all-bests-lts.Need-array-write-es (all-bests-calls t) (all-bests-at t) all-bests.Post all-bests-Inv-loop all-bests-μ-loop
+all-bests-array-write-es t c =
+    let at-loop-test = c .before .before .before .before .before .before .before .before in
+    let loop-test = at-loop-test .loop-test in
+    let pre = at-loop-test .before .before .before .before .pre in
+    omega (arith, few-children (pre .1 .0) (pre .1 .1 .0) (pre .1 .1 .1), loop-test .taken)
 
-all-bests-best-of-requires-2 : (t : ℕ) → all-bests-lts.Need-best-of-requires-2 (
-  child-reads.Asked,
-  child-reads.Learnt,
-  best-of-below t,
-  best-of.Post,
-) (all-bests-at t) all-bests.Post all-bests-Inv-loop all-bests-μ-loop
-all-bests-best-of-requires-2 t c κs = (below (child-rank (c .before .before .before .before .before .before .before .before .before .before .before .before .before .args .context) (probs (c .before .before .before .before .before .before .before .before .before .before .before .before .before .args .child-sat) (c .before .before .before .before .before .before .before .before .before .before .before .before .before .args .child-dissat)) (c .before .before .before .before .before .before .before .before .before .before .before .before .before .pre .1 .0) (c .before .before .before .before .before .before .before .before .before .before .before .before .before .pre .1 .1 .1) (c .before .before .before .before .before .before .before .before .before .before .loop .inv .0) (c .before .before .before .before .before .before .before .before .before .loop-test .taken) (c .before .before .before .before .before .before .before .before .child .ensures) (c .before .before .before .before .before .before .before .before .before .before .before .before .before .args .child-dissat)) (c .before .before .before .before .before .before .before .before .before .before .before .before .before .pre .0), second-going (c .before .before .before .before .before .before .before .before .before .before .before .before .before .args .context) (probs (c .before .before .before .before .before .before .before .before .before .before .before .before .before .args .child-sat) (c .before .before .before .before .before .before .before .before .before .before .before .before .before .args .child-dissat)) (c .before .before .before .before .before .before .before .before .before .before .before .before .before .pre .1 .0) (c .before .before .before .before .before .before .before .before .before .before .before .before .before .pre .1 .1 .1) (c .before .before .before .before .before .before .before .before .before .before .loop .inv .0) (c .before .before .before .before .before .before .before .before .before .loop-test .taken) (c .before .before .before .before .before .before .before .before .child .ensures) (c .before .before .before .before .before .before .best-of .ensures) (c .before .before .e .given .1) (c .before .before .before .before .before .before .before .before .before .before .before .before .before .args .child-dissat))
+all-bests-best-of-requires-2 : (t : ℕ) →
+    all-bests-lts.Need-best-of-requires-2 (all-bests-calls t) (all-bests-at t) all-bests.Post all-bests-Inv-loop all-bests-μ-loop
+all-bests-best-of-requires-2 t c κs =
+    let e = c .before .before .e in
+    let at-best-of = c .before .before .before .before .before .before in
+    let best-of = at-best-of .best-of in
+    let child = at-best-of .before .before .child in
+    let loop-test = at-best-of .before .before .before .loop-test in
+    let loop = at-best-of .before .before .before .before .loop in
+    let start = at-best-of .before .before .before .before .before .before .before in
+    let args = start .args in
+    let pre = start .pre in
+    let p = probs (args .child-sat) (args .child-dissat) in (
+      below
+          (child-rank (args .context) p (pre .1 .0) (pre .1 .1 .1) (loop .inv .0) (loop-test .taken) (child .ensures)
+          (args .child-dissat)) (pre .0),
+      second-going (args .context) p (pre .1 .0) (pre .1 .1 .1) (loop .inv .0) (loop-test .taken) (child .ensures)
+          (best-of .ensures) (e .given .1) (args .child-dissat),
+    )
 
-all-bests-enum-known-no-2 : (t : ℕ) → all-bests-lts.Need-enum-known-no-2 (
-  child-reads.Asked,
-  child-reads.Learnt,
-  best-of-below t,
-  best-of.Post,
-) (all-bests-at t) all-bests.Post all-bests-Inv-loop all-bests-μ-loop
+all-bests-enum-known-no-2 : (t : ℕ) →
+    all-bests-lts.Need-enum-known-no-2 (all-bests-calls t) (all-bests-at t) all-bests.Post all-bests-Inv-loop all-bests-μ-loop
 all-bests-enum-known-no-2 t c = search needs
 
-all-bests-same-length-2 : (t : ℕ) → all-bests-lts.Need-same-length-2 (
-  child-reads.Asked,
-  child-reads.Learnt,
-  best-of-below t,
-  best-of.Post,
-) (all-bests-at t) all-bests.Post all-bests-Inv-loop all-bests-μ-loop
-all-bests-same-length-2 t c = ready-long (c .before .before .before .before .before .before .before .before .before .before .before .before .before .before .before .before .before .before .before .pre .1 .0 .ready) (c .before .before .before .before .before .best-of2 .ensures .ready)
+all-bests-same-length-2 : (t : ℕ) →
+    all-bests-lts.Need-same-length-2 (all-bests-calls t) (all-bests-at t) all-bests.Post all-bests-Inv-loop all-bests-μ-loop
+all-bests-same-length-2 t c =
+    let best-of2 = c .before .before .before .before .before .best-of2 in
+    let earlier = c .before .before .before .before .before .before .before .before .before .before .before .before in
+    let pre = earlier .before .before .before .before .before .before .before .pre in
+    ready-long (pre .1 .0 .ready) (best-of2 .ensures .ready)
 
-all-bests-returns-2 : (t : ℕ) → all-bests-lts.Need-returns-2 (
-  child-reads.Asked,
-  child-reads.Learnt,
-  best-of-below t,
-  best-of.Post,
-) (all-bests-at t) all-bests.Post all-bests-Inv-loop all-bests-μ-loop
-all-bests-returns-2 t c = second-refused (c .before .before .before .before .before .before .before .before .before .before .before .before .before .before .before .before .before .before .before .args .context) (probs (c .before .before .before .before .before .before .before .before .before .before .before .before .before .before .before .before .before .before .before .args .child-sat) (c .before .before .before .before .before .before .before .before .before .before .before .before .before .before .before .before .before .before .before .args .child-dissat)) (c .before .before .before .before .before .before .before .before .before .before .before .before .before .before .before .before .before .before .before .pre .1 .0) (c .before .before .before .before .before .before .before .before .before .before .before .before .before .before .before .before .before .before .before .pre .1 .1 .1) (c .before .before .before .before .before .before .before .before .before .before .before .before .before .before .before .before .loop .inv .0) (c .before .before .before .before .before .before .before .before .before .before .before .before .before .before .before .loop-test .taken) (c .before .before .before .before .before .before .before .before .before .before .before .before .before .before .child .ensures) (c .before .before .before .before .before .before .before .before .before .before .before .before .best-of .ensures) (c .before .before .before .before .before .before .before .before .e .given .1) (c .before .before .before .before .before .best-of2 .ensures) (c .before .no2 .given .1) _ _
+all-bests-returns-2 : (t : ℕ) →
+    all-bests-lts.Need-returns-2 (all-bests-calls t) (all-bests-at t) all-bests.Post all-bests-Inv-loop all-bests-μ-loop
+all-bests-returns-2 t c =
+    let no2 = c .before .no2 in
+    let best-of2 = c .before .before .before .before .before .best-of2 in
+    let at-e = c .before .before .before .before .before .before .before .before in
+    let e = at-e .e in
+    let best-of = at-e .before .before .before .before .best-of in
+    let at-child = at-e .before .before .before .before .before .before in
+    let child = at-child .child in
+    let loop-test = at-child .before .loop-test in
+    let loop = at-child .before .before .loop in
+    let start = at-child .before .before .before .before .before in
+    let args = start .args in
+    let pre = start .pre in
+    second-refused (args .context) (probs (args .child-sat) (args .child-dissat)) (pre .1 .0) (pre .1 .1 .1) (loop .inv .0)
+    (loop-test .taken) (child .ensures) (best-of .ensures) (e .given .1) (best-of2 .ensures) (no2 .given .1) _ _
 
-all-bests-enum-known-w : (t : ℕ) → all-bests-lts.Need-enum-known-w (
-  child-reads.Asked,
-  child-reads.Learnt,
-  best-of-below t,
-  best-of.Post,
-) (all-bests-at t) all-bests.Post all-bests-Inv-loop all-bests-μ-loop
+all-bests-enum-known-w : (t : ℕ) →
+    all-bests-lts.Need-enum-known-w (all-bests-calls t) (all-bests-at t) all-bests.Post all-bests-Inv-loop all-bests-μ-loop
 all-bests-enum-known-w t c = search needs
 
-all-bests-mul-ws : (t : ℕ) → all-bests-lts.Need-mul-ws (
-  child-reads.Asked,
-  child-reads.Learnt,
-  best-of-below t,
-  best-of.Post,
-) (all-bests-at t) all-bests.Post all-bests-Inv-loop all-bests-μ-loop
-all-bests-mul-ws t c = omega (arith, few-children (c .before .before .before .before .before .before .before .before .before .before .before .before .before .before .before .before .before .before .before .pre .1 .0) (c .before .before .before .before .before .before .before .before .before .before .before .before .before .before .before .before .before .before .before .pre .1 .1 .0) (c .before .before .before .before .before .before .before .before .before .before .before .before .before .before .before .before .before .before .before .pre .1 .1 .1), c .before .before .before .before .before .before .before .before .before .before .before .before .before .before .before .loop-test .taken)
+all-bests-mul-ws : (t : ℕ) →
+    all-bests-lts.Need-mul-ws (all-bests-calls t) (all-bests-at t) all-bests.Post all-bests-Inv-loop all-bests-μ-loop
+all-bests-mul-ws t c =
+    let earlier = c .before .before .before .before .before .before .before .before .before .before .before .before in
+    let loop-test = earlier .before .before .before .loop-test in
+    let pre = earlier .before .before .before .before .before .before .before .pre in
+    omega (arith, few-children (pre .1 .0) (pre .1 .1 .0) (pre .1 .1 .1), loop-test .taken)
 
-all-bests-array-write-ws : (t : ℕ) → all-bests-lts.Need-array-write-ws (
-  child-reads.Asked,
-  child-reads.Learnt,
-  best-of-below t,
-  best-of.Post,
-) (all-bests-at t) all-bests.Post all-bests-Inv-loop all-bests-μ-loop
-all-bests-array-write-ws t c = omega (arith, few-children (c .before .before .before .before .before .before .before .before .before .before .before .before .before .before .before .before .before .before .before .pre .1 .0) (c .before .before .before .before .before .before .before .before .before .before .before .before .before .before .before .before .before .before .before .pre .1 .1 .0) (c .before .before .before .before .before .before .before .before .before .before .before .before .before .before .before .before .before .before .before .pre .1 .1 .1), c .before .before .before .before .before .before .before .before .before .before .before .before .before .before .before .loop-test .taken)
+all-bests-array-write-ws : (t : ℕ) →
+    all-bests-lts.Need-array-write-ws (all-bests-calls t) (all-bests-at t) all-bests.Post all-bests-Inv-loop all-bests-μ-loop
+all-bests-array-write-ws t c =
+    let earlier = c .before .before .before .before .before .before .before .before .before .before .before .before in
+    let loop-test = earlier .before .before .before .loop-test in
+    let pre = earlier .before .before .before .before .before .before .before .pre in
+    omega (arith, few-children (pre .1 .0) (pre .1 .1 .0) (pre .1 .1 .1), loop-test .taken)
 
-all-bests-add-j : (t : ℕ) → all-bests-lts.Need-add-j (
-  child-reads.Asked,
-  child-reads.Learnt,
-  best-of-below t,
-  best-of.Post,
-) (all-bests-at t) all-bests.Post all-bests-Inv-loop all-bests-μ-loop
-all-bests-add-j t c = omega (arith, few-children (c .before .before .before .before .before .before .before .before .before .before .before .before .before .before .before .before .before .before .before .pre .1 .0) (c .before .before .before .before .before .before .before .before .before .before .before .before .before .before .before .before .before .before .before .pre .1 .1 .0) (c .before .before .before .before .before .before .before .before .before .before .before .before .before .before .before .before .before .before .before .pre .1 .1 .1), c .before .before .before .before .before .before .before .before .before .before .before .before .before .before .before .loop-test .taken)
+all-bests-add-j : (t : ℕ) →
+    all-bests-lts.Need-add-j (all-bests-calls t) (all-bests-at t) all-bests.Post all-bests-Inv-loop all-bests-μ-loop
+all-bests-add-j t c =
+    let earlier = c .before .before .before .before .before .before .before .before .before .before .before .before in
+    let loop-test = earlier .before .before .before .loop-test in
+    let pre = earlier .before .before .before .before .before .before .before .pre in
+    omega (arith, few-children (pre .1 .0) (pre .1 .1 .0) (pre .1 .1 .1), loop-test .taken)
 
-all-bests-loop-less : (t : ℕ) → all-bests-lts.Need-loop-less (
-  child-reads.Asked,
-  child-reads.Learnt,
-  best-of-below t,
-  best-of.Post,
-) (all-bests-at t) all-bests.Post all-bests-Inv-loop all-bests-μ-loop
-all-bests-loop-less t c = omega (arith, c .before .before .before .before .before .before .before .before .before .before .before .before .before .before .before .loop-test .taken)
+all-bests-loop-less : (t : ℕ) →
+    all-bests-lts.Need-loop-less (all-bests-calls t) (all-bests-at t) all-bests.Post all-bests-Inv-loop all-bests-μ-loop
+all-bests-loop-less t c =
+    let earlier = c .before .before .before .before .before .before .before .before .before .before .before .before in
+    let loop-test = earlier .before .before .before .loop-test in
+    omega (arith, loop-test .taken)
 
-all-bests-loop-again : (t : ℕ) → all-bests-lts.Need-loop-again (
-  child-reads.Asked,
-  child-reads.Learnt,
-  best-of-below t,
-  best-of.Post,
-) (all-bests-at t) all-bests.Post all-bests-Inv-loop all-bests-μ-loop
-all-bests-loop-again t c = both-found (c .before .before .before .before .before .before .before .before .before .before .before .before .before .before .before .before .before .before .before .args .context) (probs (c .before .before .before .before .before .before .before .before .before .before .before .before .before .before .before .before .before .before .before .args .child-sat) (c .before .before .before .before .before .before .before .before .before .before .before .before .before .before .before .before .before .before .before .args .child-dissat)) (c .before .before .before .before .before .before .before .before .before .before .before .before .before .before .before .before .before .before .before .pre .1 .0) (c .before .before .before .before .before .before .before .before .before .before .before .before .before .before .before .before .before .before .before .pre .1 .1 .1) (c .before .before .before .before .before .before .before .before .before .before .before .before .before .before .before .before .loop .inv .0) (c .before .before .before .before .before .before .before .before .before .before .before .before .before .before .before .loop-test .taken) (c .before .before .before .before .before .before .before .before .before .before .before .before .before .before .child .ensures) (c .before .before .before .before .before .before .before .before .before .before .before .before .best-of .ensures) (c .before .before .before .before .before .before .before .before .e .given .1) (c .before .before .before .before .before .best-of2 .ensures) (c .before .w .given .1) (few-children (c .before .before .before .before .before .before .before .before .before .before .before .before .before .before .before .before .before .before .before .pre .1 .0) (c .before .before .before .before .before .before .before .before .before .before .before .before .before .before .before .before .before .before .before .pre .1 .1 .0) (c .before .before .before .before .before .before .before .before .before .before .before .before .before .before .before .before .before .before .before .pre .1 .1 .1)) (c .before .before .before .before .before .before .before .before .before .before .before .before .before .before .before .before .loop .inv .1 .1 .0) (c .before .before .before .before .before .before .before .before .before .before .before .before .before .before .before .before .loop .inv .1 .1 .1)
+all-bests-loop-again : (t : ℕ) →
+    all-bests-lts.Need-loop-again (all-bests-calls t) (all-bests-at t) all-bests.Post all-bests-Inv-loop all-bests-μ-loop
+all-bests-loop-again t c =
+    let w = c .before .w in
+    let best-of2 = c .before .before .before .before .before .best-of2 in
+    let at-e = c .before .before .before .before .before .before .before .before in
+    let e = at-e .e in
+    let best-of = at-e .before .before .before .before .best-of in
+    let at-child = at-e .before .before .before .before .before .before in
+    let child = at-child .child in
+    let loop-test = at-child .before .loop-test in
+    let loop = at-child .before .before .loop in
+    let start = at-child .before .before .before .before .before in
+    let args = start .args in
+    let pre = start .pre in
+    both-found (args .context) (probs (args .child-sat) (args .child-dissat)) (pre .1 .0) (pre .1 .1 .1) (loop .inv .0)
+    (loop-test .taken) (child .ensures) (best-of .ensures) (e .given .1) (best-of2 .ensures) (w .given .1)
+    (few-children (pre .1 .0) (pre .1 .1 .0) (pre .1 .1 .1)) (loop .inv .1 .1 .0) (loop .inv .1 .1 .1)
 
-all-bests-same-length-3 : (t : ℕ) → all-bests-lts.Need-same-length-3 (
-  child-reads.Asked,
-  child-reads.Learnt,
-  best-of-below t,
-  best-of.Post,
-) (all-bests-at t) all-bests.Post all-bests-Inv-loop all-bests-μ-loop
+all-bests-same-length-3 : (t : ℕ) →
+    all-bests-lts.Need-same-length-3 (all-bests-calls t) (all-bests-at t) all-bests.Post all-bests-Inv-loop all-bests-μ-loop
 all-bests-same-length-3 t c = search needs
 
-all-bests-returns-3 : (t : ℕ) → all-bests-lts.Need-returns-3 (
-  child-reads.Asked,
-  child-reads.Learnt,
-  best-of-below t,
-  best-of.Post,
-) (all-bests-at t) all-bests.Post all-bests-Inv-loop all-bests-μ-loop
-all-bests-returns-3 t c = all-found (c .before .before .before .before .args .context) (probs (c .before .before .before .before .args .child-sat) (c .before .before .before .before .args .child-dissat)) (policyAt (c .before .before .before .before .args .pol .now) (c .before .before .before .before .args .r)) (c .before .loop .inv .0) (c .before .before .before .before .pre .1 .1 .1) (c .loop-test .left) (c .before .loop .inv .1 .0)
+all-bests-returns-3 : (t : ℕ) →
+    all-bests-lts.Need-returns-3 (all-bests-calls t) (all-bests-at t) all-bests.Post all-bests-Inv-loop all-bests-μ-loop
+all-bests-returns-3 t c =
+    let loop = c .before .loop in
+    let start = c .before .before .before .before in
+    let args = start .args in
+    let pre = start .pre in
+    all-found (args .context) (probs (args .child-sat) (args .child-dissat)) (policyAt (args .pol .now) (args .r))
+    (loop .inv .0) (pre .1 .1 .1) (c .loop-test .left) (loop .inv .1 .0)
 
-and-body-child-requires : (t : ℕ) → and-body-lts.Need-child-requires (
+-- ---- and_body
+
+abbrev and-body-calls : ℕ → and-body-lts.Claims
+and-body-calls t = (
   child-reads.Asked,
   child-reads.Learnt,
   and-asks-reads.Asked,
@@ -486,108 +535,73 @@ and-body-child-requires : (t : ℕ) → and-body-lts.Need-child-requires (
   empty-reads.Learnt,
   stage-below t,
   stage.Post,
-) (and-body-at t) and-body.Post
+)
+
+and-body-child-requires : (t : ℕ) → and-body-lts.Need-child-requires (and-body-calls t) (and-body-at t) and-body.Post
 and-body-child-requires t c κs = tt
 
-and-body-child-requires-2 : (t : ℕ) → and-body-lts.Need-child-requires-2 (
-  child-reads.Asked,
-  child-reads.Learnt,
-  and-asks-reads.Asked,
-  and-asks-reads.Learnt,
-  and-pairings-reads.Asked,
-  and-pairings-reads.Learnt,
-  empty-reads.Asked,
-  empty-reads.Learnt,
-  stage-below t,
-  stage.Post,
-) (and-body-at t) and-body.Post
+and-body-child-requires-2 : (t : ℕ) → and-body-lts.Need-child-requires-2 (and-body-calls t) (and-body-at t) and-body.Post
 and-body-child-requires-2 t c κs = tt
 
-and-body-and-asks-requires : (t : ℕ) → and-body-lts.Need-and-asks-requires (
-  child-reads.Asked,
-  child-reads.Learnt,
-  and-asks-reads.Asked,
-  and-asks-reads.Learnt,
-  and-pairings-reads.Asked,
-  and-pairings-reads.Learnt,
-  empty-reads.Asked,
-  empty-reads.Learnt,
-  stage-below t,
-  stage.Post,
-) (and-body-at t) and-body.Post
+and-body-and-asks-requires : (t : ℕ) → and-body-lts.Need-and-asks-requires (and-body-calls t) (and-body-at t) and-body.Post
 and-body-and-asks-requires t c κs = tt
 
-and-body-and-pairings-requires : (t : ℕ) → and-body-lts.Need-and-pairings-requires (
-  child-reads.Asked,
-  child-reads.Learnt,
-  and-asks-reads.Asked,
-  and-asks-reads.Learnt,
-  and-pairings-reads.Asked,
-  and-pairings-reads.Learnt,
-  empty-reads.Asked,
-  empty-reads.Learnt,
-  stage-below t,
-  stage.Post,
-) (and-body-at t) and-body.Post
+and-body-and-pairings-requires : (t : ℕ) →
+    and-body-lts.Need-and-pairings-requires (and-body-calls t) (and-body-at t) and-body.Post
 and-body-and-pairings-requires t c κs = tt
 
-and-body-empty-requires : (t : ℕ) → and-body-lts.Need-empty-requires (
-  child-reads.Asked,
-  child-reads.Learnt,
-  and-asks-reads.Asked,
-  and-asks-reads.Learnt,
-  and-pairings-reads.Asked,
-  and-pairings-reads.Learnt,
-  empty-reads.Asked,
-  empty-reads.Learnt,
-  stage-below t,
-  stage.Post,
-) (and-body-at t) and-body.Post
+and-body-empty-requires : (t : ℕ) → and-body-lts.Need-empty-requires (and-body-calls t) (and-body-at t) and-body.Post
 and-body-empty-requires t c κs = tt
 
-and-body-stage-requires : (t : ℕ) → and-body-lts.Need-stage-requires (
-  child-reads.Asked,
-  child-reads.Learnt,
-  and-asks-reads.Asked,
-  and-asks-reads.Learnt,
-  and-pairings-reads.Asked,
-  and-pairings-reads.Learnt,
-  empty-reads.Asked,
-  empty-reads.Learnt,
-  stage-below t,
-  stage.Post,
-) (and-body-at t) and-body.Post
-and-body-stage-requires t c κs = (goes-down (c .before .before .before .before .before .before .before .before .args .pol .now) (c .before .before .before .before .before .before .before .before .args .r) (c .before .before .before .before .before .before .before .before .args .dissat) 12 14 (omega arith) (c .before .before .before .before .before .before .before .before .pre .0), (empty-doing (c .empty .ensures) (c .before .before .before .before .before .before .before .before .pre .1 .0), (omega arith, (and-asks-lighter (c .before .before .before .before .before .before .before .before .args .sat) (c .before .before .before .before .before .before .before .before .args .dissat) (c .before .before .before .before .before .child .result) (c .before .before .before .before .child2 .result) (c .before .before .before .and-asks .ensures) (and-under (c .before .before .before .before .before .before .before .before .pre .1 .0 .classed .good) (c .before .before .before .before .before .before .before .before .pre .1 .0 .named) (c .before .before .before .before .before .before .before .before .pre .1 .0 .formed) (c .before .before .before .before .before .child .ensures) (c .before .before .before .before .child2 .ensures) (c .before .before .before .before .before .before .before .before .pre .1 .1)), (omega arith, and-pairings-placed (c .before .before .and-pairings .ensures))))))
+and-body-stage-requires : (t : ℕ) → and-body-lts.Need-stage-requires (and-body-calls t) (and-body-at t) and-body.Post
+and-body-stage-requires t c κs =
+    let and-pairings = c .before .before .and-pairings in
+    let and-asks = c .before .before .before .and-asks in
+    let child2 = c .before .before .before .before .child2 in
+    let child = c .before .before .before .before .before .child in
+    let start = c .before .before .before .before .before .before .before .before in
+    let args = start .args in
+    let pre = start .pre in (
+      below (omega arith) (pre .0),
+      (
+        empty-doing (c .empty .ensures) (pre .1 .0),
+        (
+          omega arith,
+          (
+            and-asks-lighter (args .sat) (args .dissat) (child .result) (child2 .result) (and-asks .ensures)
+                (two-under (pre .1 .0 .classed .good) (pre .1 .0 .named) (pre .1 .0 .formed) (child .ensures) (child2 .ensures)
+                (two-and (policyAt (args .pol .now) (args .r)) (pre .1 .1))),
+            (omega arith, and-pairings-placed (and-pairings .ensures)),
+          ),
+        ),
+      ),
+    )
 
-and-body-same-length : (t : ℕ) → and-body-lts.Need-same-length (
-  child-reads.Asked,
-  child-reads.Learnt,
-  and-asks-reads.Asked,
-  and-asks-reads.Learnt,
-  and-pairings-reads.Asked,
-  and-pairings-reads.Learnt,
-  empty-reads.Asked,
-  empty-reads.Learnt,
-  stage-below t,
-  stage.Post,
-) (and-body-at t) and-body.Post
-and-body-same-length t c = ready-long (c .before .before .before .before .before .before .before .before .before .before .before .pre .1 .0 .ready) (c .before .before .stage .ensures .ready)
+and-body-same-length : (t : ℕ) → and-body-lts.Need-same-length (and-body-calls t) (and-body-at t) and-body.Post
+and-body-same-length t c =
+    let stage = c .before .before .stage in
+    let pre = c .before .before .before .before .before .before .before .before .before .before .before .pre in
+    ready-long (pre .1 .0 .ready) (stage .ensures .ready)
 
-and-body-returns : (t : ℕ) → and-body-lts.Need-returns (
-  child-reads.Asked,
-  child-reads.Learnt,
-  and-asks-reads.Asked,
-  and-asks-reads.Learnt,
-  and-pairings-reads.Asked,
-  and-pairings-reads.Learnt,
-  empty-reads.Asked,
-  empty-reads.Learnt,
-  stage-below t,
-  stage.Post,
-) (and-body-at t) and-body.Post
-and-body-returns t c = body-and (c .before .before .before .before .before .before .before .before .before .before .before .args .context) (c .before .before .before .before .before .before .before .before .before .before .before .pre .1 .0 .classed .good) (c .before .before .before .before .before .before .before .before .before .before .before .pre .1 .0 .named) (c .before .before .before .before .before .before .before .before .before .before .before .args .sat) (c .before .before .before .before .before .before .before .before .before .before .before .args .dissat) (c .before .before .before .before .before .before .before .before .before .before .before .pre .1 .1) (c .before .before .before .before .before .before .before .before .child .ensures) (c .before .before .before .before .before .before .before .child2 .ensures) (c .before .before .before .before .before .before .and-asks .ensures) (c .before .before .before .before .before .and-pairings .ensures) (c .before .before .before .empty .ensures) (c .before .before .stage .ensures)
+and-body-returns : (t : ℕ) → and-body-lts.Need-returns (and-body-calls t) (and-body-at t) and-body.Post
+and-body-returns t c =
+    let stage = c .before .before .stage in
+    let empty = c .before .before .before .empty in
+    let and-pairings = c .before .before .before .before .before .and-pairings in
+    let at-and-asks = c .before .before .before .before .before .before in
+    let and-asks = at-and-asks .and-asks in
+    let child2 = at-and-asks .before .child2 in
+    let child = at-and-asks .before .before .child in
+    let start = at-and-asks .before .before .before .before .before in
+    let args = start .args in
+    let pre = start .pre in
+    body-and (args .context) (pre .1 .0 .classed .good) (pre .1 .0 .named) (args .sat) (args .dissat) (pre .1 .1)
+    (child .ensures) (child2 .ensures) (and-asks .ensures) (and-pairings .ensures) (empty .ensures) (stage .ensures)
 
-and-ors-head-of-requires : (t : ℕ) → and-ors-lts.Need-head-of-requires (
+-- ---- and_ors
+
+abbrev and-ors-calls : ℕ → and-ors-lts.Claims
+and-ors-calls t = (
   head-of-reads.Asked,
   head-of-reads.Learnt,
   child-reads.Asked,
@@ -598,218 +612,164 @@ and-ors-head-of-requires : (t : ℕ) → and-ors-lts.Need-head-of-requires (
   and-or-pairings-reads.Learnt,
   stage-below t,
   stage.Post,
-) (and-ors-at t) and-ors.Post
+)
+
+and-ors-head-of-requires : (t : ℕ) → and-ors-lts.Need-head-of-requires (and-ors-calls t) (and-ors-at t) and-ors.Post
 and-ors-head-of-requires t c κs = tt
 
-and-ors-returns : (t : ℕ) → and-ors-lts.Need-returns (
-  head-of-reads.Asked,
-  head-of-reads.Learnt,
-  child-reads.Asked,
-  child-reads.Learnt,
-  and-or-asks-reads.Asked,
-  and-or-asks-reads.Learnt,
-  and-or-pairings-reads.Asked,
-  and-or-pairings-reads.Learnt,
-  stage-below t,
-  stage.Post,
-) (and-ors-at t) and-ors.Post
-and-ors-returns t c = and-ors-plain (c .before .before .before .before .before .args .context) (c .before .before .before .before .before .pre .1 .0 .classed .good) (againIn (c .before .before .before .before .before .args .context) (policyAt (c .before .before .before .before .before .args .pol .now) (c .before .before .before .before .before .args .r)) (probs (c .before .before .before .before .before .args .sat) (c .before .before .before .before .before .args .dissat))) (c .before .before .before .before .before .args .sat) (c .before .before .before .before .before .args .dissat) (c .before .before .before .before .before .args .w) (c .before .before .before .before .before .args .v) (c .before .before .before .before .before .args .a) (c .before .before .before .before .before .args .other) (c .before .before .before .before .before .args .c) (head-other (policyAt (c .before .before .before .before .before .args .pol .now) (c .before .before .before .before .before .args .a)) (c .before .before .head-of .ensures) (c .if1 .taken)) (c .before .before .before .before .before .pre .1 .0 .ready) (c .before .before .before .before .before .pre .1 .0 .table)
+and-ors-returns : (t : ℕ) → and-ors-lts.Need-returns (and-ors-calls t) (and-ors-at t) and-ors.Post
+and-ors-returns t c =
+    let head-of = c .before .before .head-of in
+    let start = c .before .before .before .before .before in
+    let args = start .args in
+    let pre = start .pre in
+    let p = probs (args .sat) (args .dissat) in
+    let q = policyAt (args .pol .now) (args .r) in
+    let again = againIn (args .context) q p in
+    and-ors-plain (args .context) (pre .1 .0 .classed .good) again (args .sat) (args .dissat) (args .w) (args .v) (args .a)
+    (args .other) (args .c) (head-other (policyAt (args .pol .now) (args .a)) (head-of .ensures) (c .if1 .taken))
+    (pre .1 .0 .ready) (pre .1 .0 .table)
 
-and-ors-child-requires : (t : ℕ) → and-ors-lts.Need-child-requires (
-  head-of-reads.Asked,
-  head-of-reads.Learnt,
-  child-reads.Asked,
-  child-reads.Learnt,
-  and-or-asks-reads.Asked,
-  and-or-asks-reads.Learnt,
-  and-or-pairings-reads.Asked,
-  and-or-pairings-reads.Learnt,
-  stage-below t,
-  stage.Post,
-) (and-ors-at t) and-ors.Post
+and-ors-child-requires : (t : ℕ) → and-ors-lts.Need-child-requires (and-ors-calls t) (and-ors-at t) and-ors.Post
 and-ors-child-requires t c κs = tt
 
-and-ors-child-requires-2 : (t : ℕ) → and-ors-lts.Need-child-requires-2 (
-  head-of-reads.Asked,
-  head-of-reads.Learnt,
-  child-reads.Asked,
-  child-reads.Learnt,
-  and-or-asks-reads.Asked,
-  and-or-asks-reads.Learnt,
-  and-or-pairings-reads.Asked,
-  and-or-pairings-reads.Learnt,
-  stage-below t,
-  stage.Post,
-) (and-ors-at t) and-ors.Post
+and-ors-child-requires-2 : (t : ℕ) → and-ors-lts.Need-child-requires-2 (and-ors-calls t) (and-ors-at t) and-ors.Post
 and-ors-child-requires-2 t c κs = tt
 
-and-ors-and-or-asks-requires : (t : ℕ) → and-ors-lts.Need-and-or-asks-requires (
-  head-of-reads.Asked,
-  head-of-reads.Learnt,
-  child-reads.Asked,
-  child-reads.Learnt,
-  and-or-asks-reads.Asked,
-  and-or-asks-reads.Learnt,
-  and-or-pairings-reads.Asked,
-  and-or-pairings-reads.Learnt,
-  stage-below t,
-  stage.Post,
-) (and-ors-at t) and-ors.Post
+and-ors-and-or-asks-requires : (t : ℕ) → and-ors-lts.Need-and-or-asks-requires (and-ors-calls t) (and-ors-at t) and-ors.Post
 and-ors-and-or-asks-requires t c κs = tt
 
-and-ors-and-or-pairings-requires : (t : ℕ) → and-ors-lts.Need-and-or-pairings-requires (
-  head-of-reads.Asked,
-  head-of-reads.Learnt,
-  child-reads.Asked,
-  child-reads.Learnt,
-  and-or-asks-reads.Asked,
-  and-or-asks-reads.Learnt,
-  and-or-pairings-reads.Asked,
-  and-or-pairings-reads.Learnt,
-  stage-below t,
-  stage.Post,
-) (and-ors-at t) and-ors.Post
+and-ors-and-or-pairings-requires : (t : ℕ) →
+    and-ors-lts.Need-and-or-pairings-requires (and-ors-calls t) (and-ors-at t) and-ors.Post
 and-ors-and-or-pairings-requires t c κs = tt
 
-and-ors-stage-requires : (t : ℕ) → and-ors-lts.Need-stage-requires (
-  head-of-reads.Asked,
-  head-of-reads.Learnt,
-  child-reads.Asked,
-  child-reads.Learnt,
-  and-or-asks-reads.Asked,
-  and-or-asks-reads.Learnt,
-  and-or-pairings-reads.Asked,
-  and-or-pairings-reads.Learnt,
-  stage-below t,
-  stage.Post,
-) (and-ors-at t) and-ors.Post
-and-ors-stage-requires t c κs = (goes-down (c .before .before .before .before .before .before .before .before .before .before .args .pol .now) (c .before .before .before .before .before .before .before .before .before .before .args .r) (c .before .before .before .before .before .before .before .before .before .before .args .dissat) 12 13 (omega arith) (c .before .before .before .before .before .before .before .before .before .before .pre .0), (c .before .before .before .before .before .before .before .before .before .before .pre .1 .0, (omega arith, (and-or-asks-lighter (c .before .before .before .before .before .before .before .before .before .before .args .sat) (c .before .before .before .before .before .before .before .before .before .before .args .dissat) (c .before .before .before .before .child .result) (c .before .before .before .child2 .result) (c .before .before .before .before .before .before .before .before .before .before .args .other) (c .before .before .before .before .before .before .before .before .before .before .args .w) (c .before .before .before .before .before .before .before .before .before .before .args .v) (c .before .before .and-or-asks .ensures) (c .before .before .before .before .before .before .before .before .before .before .pre .1 .1 .0) (and-under (c .before .before .before .before .before .before .before .before .before .before .pre .1 .0 .classed .good) (c .before .before .before .before .before .before .before .before .before .before .pre .1 .1 .0 .named) (c .before .before .before .before .before .before .before .before .before .before .pre .1 .1 .0 .formed) (c .before .before .before .before .child .ensures) (c .before .before .before .child2 .ensures) (head-kind (policyAt (c .before .before .before .before .before .before .before .before .before .before .args .pol .now) (c .before .before .before .before .before .before .before .before .before .before .args .a)) (c .before .before .before .before .before .before .before .head-of .ensures) (c .before .before .before .before .before .if1 .left))) (c .before .before .before .before .before .before .before .before .before .before .pre .1 .1 .1), (omega arith, and-or-pairings-placed (c .before .before .before .before .before .before .before .before .before .before .args .w) (c .before .before .before .before .before .before .before .before .before .before .args .v) (c .before .and-or-pairings .ensures))))))
+and-ors-stage-requires : (t : ℕ) → and-ors-lts.Need-stage-requires (and-ors-calls t) (and-ors-at t) and-ors.Post
+and-ors-stage-requires t c κs =
+    let and-or-pairings = c .before .and-or-pairings in
+    let and-or-asks = c .before .before .and-or-asks in
+    let child2 = c .before .before .before .child2 in
+    let child = c .before .before .before .before .child in
+    let if1 = c .before .before .before .before .before .if1 in
+    let at-head-of = c .before .before .before .before .before .before .before in
+    let head-of = at-head-of .head-of in
+    let start = at-head-of .before .before .before in
+    let args = start .args in
+    let pre = start .pre in (
+      below (omega arith) (pre .0),
+      (
+        pre .1 .0,
+        (
+          omega arith,
+          (
+            and-or-asks-lighter (args .sat) (args .dissat) (child .result) (child2 .result) (args .other) (args .w) (args .v)
+                (and-or-asks .ensures) (pre .1 .1 .0)
+                (two-under (pre .1 .0 .classed .good) (pre .1 .1 .0 .named) (pre .1 .1 .0 .formed) (child .ensures)
+                (child2 .ensures)
+                (two-and (policyAt (args .pol .now) (args .a))
+                (head-kind (policyAt (args .pol .now) (args .a)) (head-of .ensures) (if1 .left)))) (pre .1 .1 .1),
+            (omega arith, and-or-pairings-placed (args .w) (args .v) (and-or-pairings .ensures)),
+          ),
+        ),
+      ),
+    )
 
-and-ors-same-length : (t : ℕ) → and-ors-lts.Need-same-length (
-  head-of-reads.Asked,
-  head-of-reads.Learnt,
-  child-reads.Asked,
-  child-reads.Learnt,
-  and-or-asks-reads.Asked,
-  and-or-asks-reads.Learnt,
-  and-or-pairings-reads.Asked,
-  and-or-pairings-reads.Learnt,
-  stage-below t,
-  stage.Post,
-) (and-ors-at t) and-ors.Post
-and-ors-same-length t c = ready-long (c .before .before .before .before .before .before .before .before .before .before .before .before .before .pre .1 .0 .ready) (c .before .before .stage .ensures .ready)
+and-ors-same-length : (t : ℕ) → and-ors-lts.Need-same-length (and-ors-calls t) (and-ors-at t) and-ors.Post
+and-ors-same-length t c =
+    let stage = c .before .before .stage in
+    let pre = c .before .before .before .before .before .before .before .before .before .before .before .before .before .pre in
+    ready-long (pre .1 .0 .ready) (stage .ensures .ready)
 
-and-ors-returns-2 : (t : ℕ) → and-ors-lts.Need-returns-2 (
-  head-of-reads.Asked,
-  head-of-reads.Learnt,
-  child-reads.Asked,
-  child-reads.Learnt,
-  and-or-asks-reads.Asked,
-  and-or-asks-reads.Learnt,
-  and-or-pairings-reads.Asked,
-  and-or-pairings-reads.Learnt,
-  stage-below t,
-  stage.Post,
-) (and-ors-at t) and-ors.Post
-and-ors-returns-2 t c = and-ors-and (c .before .before .before .before .before .before .before .before .before .before .before .before .before .args .context) (c .before .before .before .before .before .before .before .before .before .before .before .before .before .pre .1 .0 .classed .good) (againIn (c .before .before .before .before .before .before .before .before .before .before .before .before .before .args .context) (policyAt (c .before .before .before .before .before .before .before .before .before .before .before .before .before .args .pol .now) (c .before .before .before .before .before .before .before .before .before .before .before .before .before .args .r)) (probs (c .before .before .before .before .before .before .before .before .before .before .before .before .before .args .sat) (c .before .before .before .before .before .before .before .before .before .before .before .before .before .args .dissat))) (c .before .before .before .before .before .before .before .before .before .before .before .before .before .args .sat) (c .before .before .before .before .before .before .before .before .before .before .before .before .before .args .dissat) (c .before .before .before .before .before .before .before .before .before .before .before .before .before .args .w) (c .before .before .before .before .before .before .before .before .before .before .before .before .before .args .v) (c .before .before .before .before .before .before .before .before .before .before .before .before .before .args .a) (c .before .before .before .before .before .before .before .before .before .before .before .before .before .args .other) (c .before .before .before .before .before .before .before .before .before .before .before .before .before .args .c) (c .before .before .before .before .before .before .before .before .before .before .before .before .before .pre .1 .1 .0 .named) (head-kind (policyAt (c .before .before .before .before .before .before .before .before .before .before .before .before .before .args .pol .now) (c .before .before .before .before .before .before .before .before .before .before .before .before .before .args .a)) (c .before .before .before .before .before .before .before .before .before .before .head-of .ensures) (c .before .before .before .before .before .before .before .before .if1 .left)) (c .before .before .before .before .before .before .before .child .ensures) (c .before .before .before .before .before .before .child2 .ensures) (c .before .before .before .before .before .and-or-asks .ensures) (c .before .before .before .before .and-or-pairings .ensures) (c .before .before .stage .ensures)
+and-ors-returns-2 : (t : ℕ) → and-ors-lts.Need-returns-2 (and-ors-calls t) (and-ors-at t) and-ors.Post
+and-ors-returns-2 t c =
+    let stage = c .before .before .stage in
+    let and-or-pairings = c .before .before .before .before .and-or-pairings in
+    let and-or-asks = c .before .before .before .before .before .and-or-asks in
+    let at-child2 = c .before .before .before .before .before .before in
+    let child2 = at-child2 .child2 in
+    let child = at-child2 .before .child in
+    let if1 = at-child2 .before .before .if1 in
+    let head-of = at-child2 .before .before .before .before .head-of in
+    let start = at-child2 .before .before .before .before .before .before .before in
+    let args = start .args in
+    let pre = start .pre in
+    let p = probs (args .sat) (args .dissat) in
+    let q = policyAt (args .pol .now) (args .r) in
+    let again = againIn (args .context) q p in
+    and-ors-and (args .context) (pre .1 .0 .classed .good) again (args .sat) (args .dissat) (args .w) (args .v) (args .a)
+    (args .other) (args .c) (pre .1 .1 .0 .named)
+    (head-kind (policyAt (args .pol .now) (args .a)) (head-of .ensures) (if1 .left)) (child .ensures) (child2 .ensures)
+    (and-or-asks .ensures) (and-or-pairings .ensures) (stage .ensures)
 
-best-of-search-requires : (t : ℕ) → best-of-lts.Need-search-requires (
-  search-below t,
-  search′.Post,
-  choose-reads.Asked,
-  choose-reads.Learnt,
-) (best-of-at t) best-of.Post
-best-of-search-requires t c κs = (below (omega arith) (c .before .before .before .pre .0), c .before .before .before .pre .1)
+-- ---- best_of
 
-best-of-enum-known-no : (t : ℕ) → best-of-lts.Need-enum-known-no (
-  search-below t,
-  search′.Post,
-  choose-reads.Asked,
-  choose-reads.Learnt,
-) (best-of-at t) best-of.Post
+abbrev best-of-calls : ℕ → best-of-lts.Claims
+best-of-calls t = (search-below t, search′.Post, choose-reads.Asked, choose-reads.Learnt)
+
+best-of-search-requires : (t : ℕ) → best-of-lts.Need-search-requires (best-of-calls t) (best-of-at t) best-of.Post
+best-of-search-requires t c κs =
+    let pre = c .before .before .before .pre in
+    (below (omega arith) (pre .0), pre .1)
+
+best-of-enum-known-no : (t : ℕ) → best-of-lts.Need-enum-known-no (best-of-calls t) (best-of-at t) best-of.Post
 best-of-enum-known-no t c = search needs
 
-best-of-enum-known-s : (t : ℕ) → best-of-lts.Need-enum-known-s (
-  search-below t,
-  search′.Post,
-  choose-reads.Asked,
-  choose-reads.Learnt,
-) (best-of-at t) best-of.Post
+best-of-enum-known-s : (t : ℕ) → best-of-lts.Need-enum-known-s (best-of-calls t) (best-of-at t) best-of.Post
 best-of-enum-known-s t c = search needs
 
-best-of-choose-requires : (t : ℕ) → best-of-lts.Need-choose-requires (
-  search-below t,
-  search′.Post,
-  choose-reads.Asked,
-  choose-reads.Learnt,
-) (best-of-at t) best-of.Post
-best-of-choose-requires t c κs = searched-slot (c .before .before .before .before .before .before .search .ensures) _ (c .before .before .s .given .1)
+best-of-choose-requires : (t : ℕ) → best-of-lts.Need-choose-requires (best-of-calls t) (best-of-at t) best-of.Post
+best-of-choose-requires t c κs =
+    let s = c .before .before .s in
+    let searched = c .before .before .before .before .before .before .search in
+    searched-slot (searched .ensures) _ (s .given .1)
 
-best-of-enum-known-e : (t : ℕ) → best-of-lts.Need-enum-known-e (
-  search-below t,
-  search′.Post,
-  choose-reads.Asked,
-  choose-reads.Learnt,
-) (best-of-at t) best-of.Post
+best-of-enum-known-e : (t : ℕ) → best-of-lts.Need-enum-known-e (best-of-calls t) (best-of-at t) best-of.Post
 best-of-enum-known-e t c = search needs
 
-best-of-enum-told : (t : ℕ) → best-of-lts.Need-enum-told (
-  search-below t,
-  search′.Post,
-  choose-reads.Asked,
-  choose-reads.Learnt,
-) (best-of-at t) best-of.Post
+best-of-enum-told : (t : ℕ) → best-of-lts.Need-enum-told (best-of-calls t) (best-of-at t) best-of.Post
 best-of-enum-told t c = search needs
 
-best-of-same-length : (t : ℕ) → best-of-lts.Need-same-length (
-  search-below t,
-  search′.Post,
-  choose-reads.Asked,
-  choose-reads.Learnt,
-) (best-of-at t) best-of.Post
+best-of-same-length : (t : ℕ) → best-of-lts.Need-same-length (best-of-calls t) (best-of-at t) best-of.Post
 best-of-same-length t c = search needs
 
-best-of-returns : (t : ℕ) → best-of-lts.Need-returns (
-  search-below t,
-  search′.Post,
-  choose-reads.Asked,
-  choose-reads.Learnt,
-) (best-of-at t) best-of.Post
-best-of-returns t c = best-refused (c .before .before .before .before .before .before .before .before .before .args .context) (policyAt (c .before .before .before .before .before .before .before .before .before .args .pol .now) (c .before .before .before .before .before .before .before .before .before .args .r)) (probs (c .before .before .before .before .before .before .before .before .before .args .sat) (c .before .before .before .before .before .before .before .before .before .args .dissat)) (c .before .before .before .before .before .before .before .before .before .args .want) (c .before .before .before .before .before .search .ensures) _ (c .before .no .given .1)
+best-of-returns : (t : ℕ) → best-of-lts.Need-returns (best-of-calls t) (best-of-at t) best-of.Post
+best-of-returns t c =
+    let no = c .before .no in
+    let searched = c .before .before .before .before .before .search in
+    let args = c .before .before .before .before .before .before .before .before .before .args in
+    best-refused (args .context) (policyAt (args .pol .now) (args .r)) (probs (args .sat) (args .dissat)) (args .want)
+    (searched .ensures) _ (no .given .1)
 
-best-of-same-length-2 : (t : ℕ) → best-of-lts.Need-same-length-2 (
-  search-below t,
-  search′.Post,
-  choose-reads.Asked,
-  choose-reads.Learnt,
-) (best-of-at t) best-of.Post
+best-of-same-length-2 : (t : ℕ) → best-of-lts.Need-same-length-2 (best-of-calls t) (best-of-at t) best-of.Post
 best-of-same-length-2 t c = search needs
 
-best-of-returns-2 : (t : ℕ) → best-of-lts.Need-returns-2 (
-  search-below t,
-  search′.Post,
-  choose-reads.Asked,
-  choose-reads.Learnt,
-) (best-of-at t) best-of.Post
-best-of-returns-2 t c = best-found (c .before .before .before .before .before .before .before .before .before .before .before .before .before .before .args .context) (policyAt (c .before .before .before .before .before .before .before .before .before .before .before .before .before .before .args .pol .now) (c .before .before .before .before .before .before .before .before .before .before .before .before .before .before .args .r)) (probs (c .before .before .before .before .before .before .before .before .before .before .before .before .before .before .args .sat) (c .before .before .before .before .before .before .before .before .before .before .before .before .before .before .args .dissat)) (c .before .before .before .before .before .before .before .before .before .before .before .before .before .before .args .want) (c .before .before .before .before .before .before .before .before .before .before .search .ensures) _ (c .before .before .before .before .before .before .s .given .1) (c .before .before .before .choose .ensures) _ (c .before .e .given .1)
+best-of-returns-2 : (t : ℕ) → best-of-lts.Need-returns-2 (best-of-calls t) (best-of-at t) best-of.Post
+best-of-returns-2 t c =
+    let e = c .before .e in
+    let choose = c .before .before .before .choose in
+    let at-s = c .before .before .before .before .before .before in
+    let s = at-s .s in
+    let searched = at-s .before .before .before .before .search in
+    let args = at-s .before .before .before .before .before .before .before .before .args in
+    best-found (args .context) (policyAt (args .pol .now) (args .r)) (probs (args .sat) (args .dissat)) (args .want)
+    (searched .ensures) _ (s .given .1) (choose .ensures) _ (e .given .1)
 
-best-of-same-length-3 : (t : ℕ) → best-of-lts.Need-same-length-3 (
-  search-below t,
-  search′.Post,
-  choose-reads.Asked,
-  choose-reads.Learnt,
-) (best-of-at t) best-of.Post
+best-of-same-length-3 : (t : ℕ) → best-of-lts.Need-same-length-3 (best-of-calls t) (best-of-at t) best-of.Post
 best-of-same-length-3 t c = search needs
 
-best-of-returns-3 : (t : ℕ) → best-of-lts.Need-returns-3 (
-  search-below t,
-  search′.Post,
-  choose-reads.Asked,
-  choose-reads.Learnt,
-) (best-of-at t) best-of.Post
-best-of-returns-3 t c = best-missing (c .before .before .before .before .before .before .before .before .before .before .before .before .before .args .context) (policyAt (c .before .before .before .before .before .before .before .before .before .before .before .before .before .args .pol .now) (c .before .before .before .before .before .before .before .before .before .before .before .before .before .args .r)) (probs (c .before .before .before .before .before .before .before .before .before .before .before .before .before .args .sat) (c .before .before .before .before .before .before .before .before .before .before .before .before .before .args .dissat)) (c .before .before .before .before .before .before .before .before .before .before .before .before .before .args .want) (c .before .before .before .before .before .before .before .before .before .search .ensures) _ (c .before .before .before .before .before .s .given .1) (c .before .before .choose .ensures) (c .enum-told .given .1)
+best-of-returns-3 : (t : ℕ) → best-of-lts.Need-returns-3 (best-of-calls t) (best-of-at t) best-of.Post
+best-of-returns-3 t c =
+    let choose = c .before .before .choose in
+    let s = c .before .before .before .before .before .s in
+    let at-search = c .before .before .before .before .before .before .before .before .before in
+    let searched = at-search .search in
+    let args = at-search .before .before .before .before .args in
+    best-missing (args .context) (policyAt (args .pol .now) (args .r)) (probs (args .sat) (args .dissat)) (args .want)
+    (searched .ensures) _ (s .given .1) (choose .ensures) (c .enum-told .given .1)
 
-body-head-of-requires : (t : ℕ) → body-lts.Need-head-of-requires (
+-- ---- body
+
+abbrev body-calls : ℕ → body-lts.Claims
+body-calls t = (
   head-of-reads.Asked,
   head-of-reads.Learnt,
   and-body-below t,
@@ -820,544 +780,434 @@ body-head-of-requires : (t : ℕ) → body-lts.Need-head-of-requires (
   thresh-body.Post,
   leaves-below t,
   leaves.Post,
-) (body-at t) body.Post
+)
+
+body-head-of-requires : (t : ℕ) → body-lts.Need-head-of-requires (body-calls t) (body-at t) body.Post
 body-head-of-requires t c κs = tt
 
-body-and-body-requires : (t : ℕ) → body-lts.Need-and-body-requires (
-  head-of-reads.Asked,
-  head-of-reads.Learnt,
-  and-body-below t,
-  and-body.Post,
-  or-body-below t,
-  or-body.Post,
-  thresh-body-below t,
-  thresh-body.Post,
-  leaves-below t,
-  leaves.Post,
-) (body-at t) body.Post
-body-and-body-requires t c κs = (goes-down (c .before .before .before .before .before .args .pol .now) (c .before .before .before .before .before .args .r) (c .before .before .before .before .before .args .dissat) 14 15 (omega arith) (c .before .before .before .before .before .pre .0), (c .before .before .before .before .before .pre .1, head-kind (policyAt (c .before .before .before .before .before .args .pol .now) (c .before .before .before .before .before .args .r)) (c .before .before .head-of .ensures) (c .before .if1 .taken)))
+body-and-body-requires : (t : ℕ) → body-lts.Need-and-body-requires (body-calls t) (body-at t) body.Post
+body-and-body-requires t c κs =
+    let if1 = c .before .if1 in
+    let head-of = c .before .before .head-of in
+    let start = c .before .before .before .before .before in
+    let args = start .args in
+    let pre = start .pre in
+    (below (omega arith) (pre .0), (pre .1, head-kind (policyAt (args .pol .now) (args .r)) (head-of .ensures) (if1 .taken)))
 
-body-same-length : (t : ℕ) → body-lts.Need-same-length (
-  head-of-reads.Asked,
-  head-of-reads.Learnt,
-  and-body-below t,
-  and-body.Post,
-  or-body-below t,
-  or-body.Post,
-  thresh-body-below t,
-  thresh-body.Post,
-  leaves-below t,
-  leaves.Post,
-) (body-at t) body.Post
-body-same-length t c = ready-long (c .before .before .before .before .before .before .before .before .pre .1 .ready) (c .before .before .and-body .ensures .ready)
+body-same-length : (t : ℕ) → body-lts.Need-same-length (body-calls t) (body-at t) body.Post
+body-same-length t c =
+    let and-body = c .before .before .and-body in
+    let pre = c .before .before .before .before .before .before .before .before .pre in
+    ready-long (pre .1 .ready) (and-body .ensures .ready)
 
-body-returns : (t : ℕ) → body-lts.Need-returns (
-  head-of-reads.Asked,
-  head-of-reads.Learnt,
-  and-body-below t,
-  and-body.Post,
-  or-body-below t,
-  or-body.Post,
-  thresh-body-below t,
-  thresh-body.Post,
-  leaves-below t,
-  leaves.Post,
-) (body-at t) body.Post
+body-returns : (t : ℕ) → body-lts.Need-returns (body-calls t) (body-at t) body.Post
 body-returns t c = tabled-one (c .before .before .and-body .ensures)
 
-body-cast-or-body : (t : ℕ) → body-lts.Need-cast-or-body (
-  head-of-reads.Asked,
-  head-of-reads.Learnt,
-  and-body-below t,
-  and-body.Post,
-  or-body-below t,
-  or-body.Post,
-  thresh-body-below t,
-  thresh-body.Post,
-  leaves-below t,
-  leaves.Post,
-) (body-at t) body.Post
-body-cast-or-body t c = omega (arith, head-left-low (policyAt (c .before .before .before .before .before .before .before .args .pol .now) (c .before .before .before .before .before .before .before .args .r)) (c .before .before .before .before .head-of .ensures) (or-weights (policyAt (c .before .before .before .before .before .before .before .args .pol .now) (c .before .before .before .before .before .before .before .args .r)) (c .before .before .before .before .before .before .before .pre .1 .formed) (head-kind (policyAt (c .before .before .before .before .before .before .before .args .pol .now) (c .before .before .before .before .before .before .before .args .r)) (c .before .before .before .before .head-of .ensures) (c .before .before .if2 .taken)) .0))
+body-cast-or-body : (t : ℕ) → body-lts.Need-cast-or-body (body-calls t) (body-at t) body.Post
+body-cast-or-body t c =
+    let if2 = c .before .before .if2 in
+    let head-of = c .before .before .before .before .head-of in
+    let start = c .before .before .before .before .before .before .before in
+    let args = start .args in
+    let pre = start .pre in
+    let q = policyAt (args .pol .now) (args .r) in
+    omega
+    (arith, head-low q (head-of .ensures) (or-weights q (pre .1 .formed) (head-kind q (head-of .ensures) (if2 .taken))) .0)
 
-body-cast-or-body-2 : (t : ℕ) → body-lts.Need-cast-or-body-2 (
-  head-of-reads.Asked,
-  head-of-reads.Learnt,
-  and-body-below t,
-  and-body.Post,
-  or-body-below t,
-  or-body.Post,
-  thresh-body-below t,
-  thresh-body.Post,
-  leaves-below t,
-  leaves.Post,
-) (body-at t) body.Post
-body-cast-or-body-2 t c = omega (arith, head-right-low (policyAt (c .before .before .before .before .before .before .before .before .args .pol .now) (c .before .before .before .before .before .before .before .before .args .r)) (c .before .before .before .before .before .head-of .ensures) (or-weights (policyAt (c .before .before .before .before .before .before .before .before .args .pol .now) (c .before .before .before .before .before .before .before .before .args .r)) (c .before .before .before .before .before .before .before .before .pre .1 .formed) (head-kind (policyAt (c .before .before .before .before .before .before .before .before .args .pol .now) (c .before .before .before .before .before .before .before .before .args .r)) (c .before .before .before .before .before .head-of .ensures) (c .before .before .before .if2 .taken)) .1))
+body-cast-or-body-2 : (t : ℕ) → body-lts.Need-cast-or-body-2 (body-calls t) (body-at t) body.Post
+body-cast-or-body-2 t c =
+    let if2 = c .before .before .before .if2 in
+    let head-of = c .before .before .before .before .before .head-of in
+    let start = c .before .before .before .before .before .before .before .before in
+    let args = start .args in
+    let pre = start .pre in
+    let q = policyAt (args .pol .now) (args .r) in
+    omega
+    (arith, head-low q (head-of .ensures) (or-weights q (pre .1 .formed) (head-kind q (head-of .ensures) (if2 .taken))) .1)
 
-body-or-body-requires : (t : ℕ) → body-lts.Need-or-body-requires (
-  head-of-reads.Asked,
-  head-of-reads.Learnt,
-  and-body-below t,
-  and-body.Post,
-  or-body-below t,
-  or-body.Post,
-  thresh-body-below t,
-  thresh-body.Post,
-  leaves-below t,
-  leaves.Post,
-) (body-at t) body.Post
-body-or-body-requires t c κs = (goes-down (c .before .before .before .before .before .before .before .before .args .pol .now) (c .before .before .before .before .before .before .before .before .args .r) (c .before .before .before .before .before .before .before .before .args .dissat) 14 15 (omega arith) (c .before .before .before .before .before .before .before .before .pre .0), (c .before .before .before .before .before .before .before .before .pre .1, head-or (policyAt (c .before .before .before .before .before .before .before .before .args .pol .now) (c .before .before .before .before .before .before .before .before .args .r)) (c .before .before .before .before .before .head-of .ensures) (c .before .before .before .if2 .taken) refl refl))
+body-or-body-requires : (t : ℕ) → body-lts.Need-or-body-requires (body-calls t) (body-at t) body.Post
+body-or-body-requires t c κs =
+    let if2 = c .before .before .before .if2 in
+    let head-of = c .before .before .before .before .before .head-of in
+    let start = c .before .before .before .before .before .before .before .before in
+    let args = start .args in
+    let pre = start .pre in (
+      below (omega arith) (pre .0),
+      (pre .1, head-or (policyAt (args .pol .now) (args .r)) (head-of .ensures) (if2 .taken) refl refl),
+    )
 
-body-same-length-2 : (t : ℕ) → body-lts.Need-same-length-2 (
-  head-of-reads.Asked,
-  head-of-reads.Learnt,
-  and-body-below t,
-  and-body.Post,
-  or-body-below t,
-  or-body.Post,
-  thresh-body-below t,
-  thresh-body.Post,
-  leaves-below t,
-  leaves.Post,
-) (body-at t) body.Post
-body-same-length-2 t c = ready-long (c .before .before .before .before .before .before .before .before .before .before .before .pre .1 .ready) (c .before .before .or-body .ensures .ready)
+body-same-length-2 : (t : ℕ) → body-lts.Need-same-length-2 (body-calls t) (body-at t) body.Post
+body-same-length-2 t c =
+    let or-body = c .before .before .or-body in
+    let pre = c .before .before .before .before .before .before .before .before .before .before .before .pre in
+    ready-long (pre .1 .ready) (or-body .ensures .ready)
 
-body-returns-2 : (t : ℕ) → body-lts.Need-returns-2 (
-  head-of-reads.Asked,
-  head-of-reads.Learnt,
-  and-body-below t,
-  and-body.Post,
-  or-body-below t,
-  or-body.Post,
-  thresh-body-below t,
-  thresh-body.Post,
-  leaves-below t,
-  leaves.Post,
-) (body-at t) body.Post
+body-returns-2 : (t : ℕ) → body-lts.Need-returns-2 (body-calls t) (body-at t) body.Post
 body-returns-2 t c = tabled-one (c .before .before .or-body .ensures)
 
-body-cast-thresh-body : (t : ℕ) → body-lts.Need-cast-thresh-body (
-  head-of-reads.Asked,
-  head-of-reads.Learnt,
-  and-body-below t,
-  and-body.Post,
-  or-body-below t,
-  or-body.Post,
-  thresh-body-below t,
-  thresh-body.Post,
-  leaves-below t,
-  leaves.Post,
-) (body-at t) body.Post
-body-cast-thresh-body t c = omega (arith, thresh-k-low (c .before .before .before .before .before .before .before .before .pre .1 .classed .good) (c .before .before .before .before .before .before .before .before .pre .1 .named) (c .before .before .before .before .before .before .before .before .pre .1 .formed) (c .before .before .before .before .before .head-of .ensures) (c .before .before .if3 .taken))
+body-cast-thresh-body : (t : ℕ) → body-lts.Need-cast-thresh-body (body-calls t) (body-at t) body.Post
+body-cast-thresh-body t c =
+    let if3 = c .before .before .if3 in
+    let head-of = c .before .before .before .before .before .head-of in
+    let pre = c .before .before .before .before .before .before .before .before .pre in
+    omega (arith, thresh-k-low (pre .1 .classed .good) (pre .1 .named) (pre .1 .formed) (head-of .ensures) (if3 .taken))
 
-body-thresh-body-requires : (t : ℕ) → body-lts.Need-thresh-body-requires (
-  head-of-reads.Asked,
-  head-of-reads.Learnt,
-  and-body-below t,
-  and-body.Post,
-  or-body-below t,
-  or-body.Post,
-  thresh-body-below t,
-  thresh-body.Post,
-  leaves-below t,
-  leaves.Post,
-) (body-at t) body.Post
-body-thresh-body-requires t c κs = (goes-down (c .before .before .before .before .before .before .before .before .args .pol .now) (c .before .before .before .before .before .before .before .before .args .r) (c .before .before .before .before .before .before .before .before .args .dissat) 14 15 (omega arith) (c .before .before .before .before .before .before .before .before .pre .0), (c .before .before .before .before .before .before .before .before .pre .1, head-thresh (policyAt (c .before .before .before .before .before .before .before .before .args .pol .now) (c .before .before .before .before .before .before .before .before .args .r)) (c .before .before .before .before .before .head-of .ensures) (c .before .before .if3 .taken) refl refl))
+body-thresh-body-requires : (t : ℕ) → body-lts.Need-thresh-body-requires (body-calls t) (body-at t) body.Post
+body-thresh-body-requires t c κs =
+    let if3 = c .before .before .if3 in
+    let head-of = c .before .before .before .before .before .head-of in
+    let start = c .before .before .before .before .before .before .before .before in
+    let args = start .args in
+    let pre = start .pre in (
+      below (omega arith) (pre .0),
+      (pre .1, head-thresh (policyAt (args .pol .now) (args .r)) (head-of .ensures) (if3 .taken) refl refl),
+    )
 
-body-same-length-3 : (t : ℕ) → body-lts.Need-same-length-3 (
-  head-of-reads.Asked,
-  head-of-reads.Learnt,
-  and-body-below t,
-  and-body.Post,
-  or-body-below t,
-  or-body.Post,
-  thresh-body-below t,
-  thresh-body.Post,
-  leaves-below t,
-  leaves.Post,
-) (body-at t) body.Post
-body-same-length-3 t c = ready-long (c .before .before .before .before .before .before .before .before .before .before .before .pre .1 .ready) (c .before .before .thresh-body .ensures .ready)
+body-same-length-3 : (t : ℕ) → body-lts.Need-same-length-3 (body-calls t) (body-at t) body.Post
+body-same-length-3 t c =
+    let thresh-body = c .before .before .thresh-body in
+    let pre = c .before .before .before .before .before .before .before .before .before .before .before .pre in
+    ready-long (pre .1 .ready) (thresh-body .ensures .ready)
 
-body-returns-3 : (t : ℕ) → body-lts.Need-returns-3 (
-  head-of-reads.Asked,
-  head-of-reads.Learnt,
-  and-body-below t,
-  and-body.Post,
-  or-body-below t,
-  or-body.Post,
-  thresh-body-below t,
-  thresh-body.Post,
-  leaves-below t,
-  leaves.Post,
-) (body-at t) body.Post
+body-returns-3 : (t : ℕ) → body-lts.Need-returns-3 (body-calls t) (body-at t) body.Post
 body-returns-3 t c = c .before .before .thresh-body .ensures
 
-body-leaves-requires : (t : ℕ) → body-lts.Need-leaves-requires (
-  head-of-reads.Asked,
-  head-of-reads.Learnt,
-  and-body-below t,
-  and-body.Post,
-  or-body-below t,
-  or-body.Post,
-  thresh-body-below t,
-  thresh-body.Post,
-  leaves-below t,
-  leaves.Post,
-) (body-at t) body.Post
-body-leaves-requires t c κs = (goes-down (c .before .before .before .before .before .before .before .args .pol .now) (c .before .before .before .before .before .before .before .args .r) (c .before .before .before .before .before .before .before .args .dissat) 14 15 (omega arith) (c .before .before .before .before .before .before .before .pre .0), (c .before .before .before .before .before .before .before .pre .1, head-leaf (policyAt (c .before .before .before .before .before .before .before .args .pol .now) (c .before .before .before .before .before .before .before .args .r)) (c .before .before .before .before .head-of .ensures) (c .before .before .before .if1 .left) (c .before .before .if2 .left) (c .before .if3 .left)))
+body-leaves-requires : (t : ℕ) → body-lts.Need-leaves-requires (body-calls t) (body-at t) body.Post
+body-leaves-requires t c κs =
+    let if3 = c .before .if3 in
+    let if2 = c .before .before .if2 in
+    let if1 = c .before .before .before .if1 in
+    let head-of = c .before .before .before .before .head-of in
+    let start = c .before .before .before .before .before .before .before in
+    let args = start .args in
+    let pre = start .pre in (
+      below (omega arith) (pre .0),
+      (pre .1, head-leaf (policyAt (args .pol .now) (args .r)) (head-of .ensures) (if1 .left) (if2 .left) (if3 .left)),
+    )
 
-body-same-length-4 : (t : ℕ) → body-lts.Need-same-length-4 (
-  head-of-reads.Asked,
-  head-of-reads.Learnt,
-  and-body-below t,
-  and-body.Post,
-  or-body-below t,
-  or-body.Post,
-  thresh-body-below t,
-  thresh-body.Post,
-  leaves-below t,
-  leaves.Post,
-) (body-at t) body.Post
-body-same-length-4 t c = ready-long (c .before .before .before .before .before .before .before .before .before .before .pre .1 .ready) (c .before .before .leaves .ensures .ready)
+body-same-length-4 : (t : ℕ) → body-lts.Need-same-length-4 (body-calls t) (body-at t) body.Post
+body-same-length-4 t c =
+    let leaves = c .before .before .leaves in
+    let pre = c .before .before .before .before .before .before .before .before .before .before .pre in
+    ready-long (pre .1 .ready) (leaves .ensures .ready)
 
-body-returns-4 : (t : ℕ) → body-lts.Need-returns-4 (
-  head-of-reads.Asked,
-  head-of-reads.Learnt,
-  and-body-below t,
-  and-body.Post,
-  or-body-below t,
-  or-body.Post,
-  thresh-body-below t,
-  thresh-body.Post,
-  leaves-below t,
-  leaves.Post,
-) (body-at t) body.Post
+body-returns-4 : (t : ℕ) → body-lts.Need-returns-4 (body-calls t) (body-at t) body.Post
 body-returns-4 t c = tabled-one (c .before .before .leaves .ensures)
 
-cast-once-search-requires : (t : ℕ) → cast-once-lts.Need-search-requires (
-  search-below t,
-  search′.Post,
-  cast-entries-reads.Asked,
-  cast-entries-reads.Learnt,
-) (cast-once-at t) cast-once.Post
-cast-once-search-requires t c κs = (below (again-rank (c .before .before .before .args .pol .now) (c .before .before .before .args .r) (c .before .before .before .args .dissat) (c .before .before .before .pre .1 .1 .0)) (c .before .before .before .pre .0), going-without (c .before .before .before .pre .1 .0 .0) (c .before .before .before .pre .1 .1 .0))
+-- ---- cast_once
 
-cast-once-enum-known-no : (t : ℕ) → cast-once-lts.Need-enum-known-no (
+abbrev cast-once-calls : ℕ → cast-once-lts.Claims
+cast-once-calls t = (
   search-below t,
   search′.Post,
   cast-entries-reads.Asked,
   cast-entries-reads.Learnt,
-) (cast-once-at t) cast-once.Post
+)
+
+cast-once-search-requires : (t : ℕ) → cast-once-lts.Need-search-requires (cast-once-calls t) (cast-once-at t) cast-once.Post
+cast-once-search-requires t c κs =
+    let start = c .before .before .before in
+    let args = start .args in
+    let pre = start .pre in (
+      below (again-rank (args .pol .now) (args .r) (args .dissat) (pre .1 .1 .0)) (pre .0),
+      going-again (pre .1 .0 .0) (pre .1 .1 .0),
+    )
+
+cast-once-enum-known-no : (t : ℕ) → cast-once-lts.Need-enum-known-no (cast-once-calls t) (cast-once-at t) cast-once.Post
 cast-once-enum-known-no t c = search needs
 
-cast-once-enum-known-s : (t : ℕ) → cast-once-lts.Need-enum-known-s (
-  search-below t,
-  search′.Post,
-  cast-entries-reads.Asked,
-  cast-entries-reads.Learnt,
-) (cast-once-at t) cast-once.Post
+cast-once-enum-known-s : (t : ℕ) → cast-once-lts.Need-enum-known-s (cast-once-calls t) (cast-once-at t) cast-once.Post
 cast-once-enum-known-s t c = search needs
 
-cast-once-cast-entries-requires : (t : ℕ) → cast-once-lts.Need-cast-entries-requires (
-  search-below t,
-  search′.Post,
-  cast-entries-reads.Asked,
-  cast-entries-reads.Learnt,
-) (cast-once-at t) cast-once.Post
-cast-once-cast-entries-requires t c κs = (cast-ready (c .before .before .before .before .before .before .before .before .before .before .args .context) (probs (c .before .before .before .before .before .before .before .before .before .before .args .sat) (c .before .before .before .before .before .before .before .before .before .before .args .dissat)) (definition.search (c .before .before .before .before .before .before .before .before .before .before .args .context) (policyAt (c .before .before .before .before .before .before .before .before .before .before .args .pol .now) (c .before .before .before .before .before .before .before .before .before .before .args .r)) (definition.without (probs (c .before .before .before .before .before .before .before .before .before .before .args .sat) (c .before .before .before .before .before .before .before .before .before .before .args .dissat)))) (c .before .before .before .before .before .before .before .before .before .before .args .number) (c .before .before .before .before .before .before .before .before .before .before .pre .1 .0 .0 .ready) (c .before .before .before .before .before .before .before .before .before .before .pre .1 .0 .1) (c .before .before .before .before .before .before .search .ensures) (c .before .before .s .given .1) .0, (cast-ready (c .before .before .before .before .before .before .before .before .before .before .args .context) (probs (c .before .before .before .before .before .before .before .before .before .before .args .sat) (c .before .before .before .before .before .before .before .before .before .before .args .dissat)) (definition.search (c .before .before .before .before .before .before .before .before .before .before .args .context) (policyAt (c .before .before .before .before .before .before .before .before .before .before .args .pol .now) (c .before .before .before .before .before .before .before .before .before .before .args .r)) (definition.without (probs (c .before .before .before .before .before .before .before .before .before .before .args .sat) (c .before .before .before .before .before .before .before .before .before .before .args .dissat)))) (c .before .before .before .before .before .before .before .before .before .before .args .number) (c .before .before .before .before .before .before .before .before .before .before .pre .1 .0 .0 .ready) (c .before .before .before .before .before .before .before .before .before .before .pre .1 .0 .1) (c .before .before .before .before .before .before .search .ensures) (c .before .before .s .given .1) .1, c .before .before .before .before .before .before .before .before .before .before .pre .1 .1 .1))
+cast-once-cast-entries-requires : (t : ℕ) →
+    cast-once-lts.Need-cast-entries-requires (cast-once-calls t) (cast-once-at t) cast-once.Post
+cast-once-cast-entries-requires t c κs =
+    let s = c .before .before .s in
+    let at-search = c .before .before .before .before .before .before in
+    let searched = at-search .search in
+    let start = at-search .before .before .before .before in
+    let args = start .args in
+    let pre = start .pre in
+    let p = probs (args .sat) (args .dissat) in
+    let q = policyAt (args .pol .now) (args .r) in
+    let plain = definition.search (args .context) q (definition.without p) in
+    let ready = cast-ready (args .context) p plain (args .number) (pre .1 .0 .0 .ready) (pre .1 .0 .1) (searched .ensures) (s .given .1) in
+    (ready .0, (ready .1, pre .1 .1 .1))
 
-cast-once-same-length : (t : ℕ) → cast-once-lts.Need-same-length (
-  search-below t,
-  search′.Post,
-  cast-entries-reads.Asked,
-  cast-entries-reads.Learnt,
-) (cast-once-at t) cast-once.Post
+cast-once-same-length : (t : ℕ) → cast-once-lts.Need-same-length (cast-once-calls t) (cast-once-at t) cast-once.Post
 cast-once-same-length t c = search needs
 
-cast-once-returns : (t : ℕ) → cast-once-lts.Need-returns (
-  search-below t,
-  search′.Post,
-  cast-entries-reads.Asked,
-  cast-entries-reads.Learnt,
-) (cast-once-at t) cast-once.Post
-cast-once-returns t c = cast-refused (c .before .before .before .before .before .before .before .before .before .args .context) (probs (c .before .before .before .before .before .before .before .before .before .args .sat) (c .before .before .before .before .before .before .before .before .before .args .dissat)) (definition.search (c .before .before .before .before .before .before .before .before .before .args .context) (policyAt (c .before .before .before .before .before .before .before .before .before .args .pol .now) (c .before .before .before .before .before .before .before .before .before .args .r)) (definition.without (probs (c .before .before .before .before .before .before .before .before .before .args .sat) (c .before .before .before .before .before .before .before .before .before .args .dissat)))) (c .before .before .before .before .before .before .before .before .before .args .number) (c .before .before .before .before .before .before .before .before .before .pre .1 .0 .0 .ready) (c .before .before .before .before .before .before .before .before .before .pre .1 .0 .1) (c .before .before .before .before .before .search .ensures) (c .before .no .given .1)
+cast-once-returns : (t : ℕ) → cast-once-lts.Need-returns (cast-once-calls t) (cast-once-at t) cast-once.Post
+cast-once-returns t c =
+    let no = c .before .no in
+    let searched = c .before .before .before .before .before .search in
+    let start = c .before .before .before .before .before .before .before .before .before in
+    let args = start .args in
+    let pre = start .pre in
+    let p = probs (args .sat) (args .dissat) in
+    let q = policyAt (args .pol .now) (args .r) in
+    let plain = definition.search (args .context) q (definition.without p) in
+    cast-refused (args .context) p plain (args .number) (pre .1 .0 .0 .ready) (pre .1 .0 .1) (searched .ensures) (no .given .1)
 
-cast-once-same-length-2 : (t : ℕ) → cast-once-lts.Need-same-length-2 (
-  search-below t,
-  search′.Post,
-  cast-entries-reads.Asked,
-  cast-entries-reads.Learnt,
-) (cast-once-at t) cast-once.Post
+cast-once-same-length-2 : (t : ℕ) → cast-once-lts.Need-same-length-2 (cast-once-calls t) (cast-once-at t) cast-once.Post
 cast-once-same-length-2 t c = search needs
 
-cast-once-returns-2 : (t : ℕ) → cast-once-lts.Need-returns-2 (
-  search-below t,
-  search′.Post,
-  cast-entries-reads.Asked,
-  cast-entries-reads.Learnt,
-) (cast-once-at t) cast-once.Post
-cast-once-returns-2 t c = cast-done (c .before .before .before .before .before .before .before .before .before .before .before .before .before .args .context) (probs (c .before .before .before .before .before .before .before .before .before .before .before .before .before .args .sat) (c .before .before .before .before .before .before .before .before .before .before .before .before .before .args .dissat)) (definition.search (c .before .before .before .before .before .before .before .before .before .before .before .before .before .args .context) (policyAt (c .before .before .before .before .before .before .before .before .before .before .before .before .before .args .pol .now) (c .before .before .before .before .before .before .before .before .before .before .before .before .before .args .r)) (definition.without (probs (c .before .before .before .before .before .before .before .before .before .before .before .before .before .args .sat) (c .before .before .before .before .before .before .before .before .before .before .before .before .before .args .dissat)))) (c .before .before .before .before .before .before .before .before .before .before .before .before .before .args .number) (c .before .before .before .before .before .before .before .before .before .before .before .before .before .pre .1 .0 .0 .ready) (c .before .before .before .before .before .before .before .before .before .before .before .before .before .pre .1 .0 .1) (c .before .before .before .before .before .before .before .before .before .search .ensures) (c .before .before .before .before .before .s .given .1) (c .before .before .cast-entries .ensures)
+cast-once-returns-2 : (t : ℕ) → cast-once-lts.Need-returns-2 (cast-once-calls t) (cast-once-at t) cast-once.Post
+cast-once-returns-2 t c =
+    let cast-entries = c .before .before .cast-entries in
+    let s = c .before .before .before .before .before .s in
+    let at-search = c .before .before .before .before .before .before .before .before .before in
+    let searched = at-search .search in
+    let start = at-search .before .before .before .before in
+    let args = start .args in
+    let pre = start .pre in
+    let p = probs (args .sat) (args .dissat) in
+    let q = policyAt (args .pol .now) (args .r) in
+    let plain = definition.search (args .context) q (definition.without p) in
+    cast-done (args .context) p plain (args .number) (pre .1 .0 .0 .ready) (pre .1 .0 .1) (searched .ensures) (s .given .1)
+    (cast-entries .ensures)
+
+-- ---- casts_of
 
 abbrev casts-of-Inv-loop : casts-of-lts.InvT-loop
-casts-of-Inv-loop context pol work₀ r sat dissat table₀ number₀ work table number = CastsOn context (probs sat dissat) (definition.search context (policyAt pol r) (definition.without (probs sat dissat))) pol table₀ work₀ number table work × (number ≤ 10)
+casts-of-Inv-loop context pol work₀ r sat dissat table₀ number₀ work table number =
+    CastsOn context (probs sat dissat) (definition.search context (policyAt pol r) (definition.without (probs sat dissat)))
+    pol table₀ work₀ number table work
+    × (number ≤ 10)
 
 abbrev casts-of-μ-loop : casts-of-lts.MeasureT-loop
 casts-of-μ-loop context pol work₀ r sat dissat table₀ number₀ work table number = 10 - number
 
-casts-of-enum-known-end : (t : ℕ) → casts-of-lts.Need-enum-known-end (
-  cast-once-below t,
-  cast-once.Post,
-) (casts-of-at t) casts-of.Post casts-of-Inv-loop casts-of-μ-loop
+abbrev casts-of-calls : ℕ → casts-of-lts.Claims
+casts-of-calls t = (cast-once-below t, cast-once.Post)
+
+casts-of-enum-known-end : (t : ℕ) →
+    casts-of-lts.Need-enum-known-end (casts-of-calls t) (casts-of-at t) casts-of.Post casts-of-Inv-loop casts-of-μ-loop
 casts-of-enum-known-end t c = search needs
 
-casts-of-returns :
-    (t : ℕ) →
-    casts-of-lts.Need-returns
-    (cast-once-below t, cast-once.Post)
-    (casts-of-at t)
-    casts-of.Post
-    casts-of-Inv-loop
-    casts-of-μ-loop
-casts-of-returns t c = stops (c .before .before .before .before .before .before .pre .1 .0) _ (c .before .end .given .1)
+casts-of-returns : (t : ℕ) →
+    casts-of-lts.Need-returns (casts-of-calls t) (casts-of-at t) casts-of.Post casts-of-Inv-loop casts-of-μ-loop
+casts-of-returns t c =
+    let end = c .before .end in
+    let pre = c .before .before .before .before .before .before .pre in
+    stops (pre .1 .0) _ (end .given .1)
 
-casts-of-enum-told :
-    (t : ℕ) →
-    casts-of-lts.Need-enum-told
-    (cast-once-below t, cast-once.Post)
-    (casts-of-at t)
-    casts-of.Post
-    casts-of-Inv-loop
-    casts-of-μ-loop
+casts-of-enum-told : (t : ℕ) →
+    casts-of-lts.Need-enum-told (casts-of-calls t) (casts-of-at t) casts-of.Post casts-of-Inv-loop casts-of-μ-loop
 casts-of-enum-told t c = search needs
 
-casts-of-loop-holds :
-    (t : ℕ) →
-    casts-of-lts.Need-loop-holds
-    (cast-once-below t, cast-once.Post)
-    (casts-of-at t)
-    casts-of.Post
-    casts-of-Inv-loop
-    casts-of-μ-loop
-casts-of-loop-holds t c = (casts-begin (c .before .before .before .before .before .args .context) (probs (c .before .before .before .before .before .args .sat) (c .before .before .before .before .before .args .dissat)) (definition.search (c .before .before .before .before .before .args .context) (policyAt (c .before .before .before .before .before .args .pol .now) (c .before .before .before .before .before .args .r)) (definition.without (probs (c .before .before .before .before .before .args .sat) (c .before .before .before .before .before .args .dissat)))) (c .before .before .before .before .before .pre .1 .0) (c .enum-told .given .1), omega arith)
+casts-of-loop-holds : (t : ℕ) →
+    casts-of-lts.Need-loop-holds (casts-of-calls t) (casts-of-at t) casts-of.Post casts-of-Inv-loop casts-of-μ-loop
+casts-of-loop-holds t c =
+    let start = c .before .before .before .before .before in
+    let args = start .args in
+    let pre = start .pre in
+    let p = probs (args .sat) (args .dissat) in
+    let q = policyAt (args .pol .now) (args .r) in
+    let plain = definition.search (args .context) q (definition.without p) in
+    (casts-begin (args .context) p plain (pre .1 .0) (c .enum-told .given .1), omega arith)
 
-casts-of-cast-once-requires : (t : ℕ) → casts-of-lts.Need-cast-once-requires (
-  cast-once-below t,
-  cast-once.Post,
-) (casts-of-at t) casts-of.Post casts-of-Inv-loop casts-of-μ-loop
-casts-of-cast-once-requires t c κs = (below (omega arith) (c .before .before .before .before .before .before .before .before .pre .0), ((casts-going (c .before .before .before .before .before .before .before .before .args .context) (probs (c .before .before .before .before .before .before .before .before .args .sat) (c .before .before .before .before .before .before .before .before .args .dissat)) (definition.search (c .before .before .before .before .before .before .before .before .args .context) (policyAt (c .before .before .before .before .before .before .before .before .args .pol .now) (c .before .before .before .before .before .before .before .before .args .r)) (definition.without (probs (c .before .before .before .before .before .before .before .before .args .sat) (c .before .before .before .before .before .before .before .before .args .dissat)))) (c .before .before .before .before .before .before .before .before .pre .1 .0) (c .before .before .before .enum-told .given .1) (c .before .before .loop .inv .0), c .before .before .loop .inv .0 .table), (c .before .before .before .before .before .before .before .before .pre .1 .1, c .before .loop-test .taken)))
+casts-of-cast-once-requires : (t : ℕ) →
+    casts-of-lts.Need-cast-once-requires (casts-of-calls t) (casts-of-at t) casts-of.Post casts-of-Inv-loop casts-of-μ-loop
+casts-of-cast-once-requires t c κs =
+    let loop-test = c .before .loop-test in
+    let loop = c .before .before .loop in
+    let enum-told = c .before .before .before .enum-told in
+    let start = c .before .before .before .before .before .before .before .before in
+    let args = start .args in
+    let pre = start .pre in
+    let p = probs (args .sat) (args .dissat) in
+    let q = policyAt (args .pol .now) (args .r) in
+    let plain = definition.search (args .context) q (definition.without p) in (
+      below (omega arith) (pre .0),
+      (
+        (casts-going (args .context) p plain (pre .1 .0) (enum-told .given .1) (loop .inv .0), loop .inv .0 .table),
+        (pre .1 .1, loop-test .taken),
+      ),
+    )
 
-casts-of-enum-known-stop : (t : ℕ) → casts-of-lts.Need-enum-known-stop (
-  cast-once-below t,
-  cast-once.Post,
-) (casts-of-at t) casts-of.Post casts-of-Inv-loop casts-of-μ-loop
+casts-of-enum-known-stop : (t : ℕ) →
+    casts-of-lts.Need-enum-known-stop (casts-of-calls t) (casts-of-at t) casts-of.Post casts-of-Inv-loop casts-of-μ-loop
 casts-of-enum-known-stop t c = search needs
 
-casts-of-same-length :
-    (t : ℕ) →
-    casts-of-lts.Need-same-length
-    (cast-once-below t, cast-once.Post)
-    (casts-of-at t)
-    casts-of.Post
-    casts-of-Inv-loop
-    casts-of-μ-loop
+casts-of-same-length : (t : ℕ) →
+    casts-of-lts.Need-same-length (casts-of-calls t) (casts-of-at t) casts-of.Post casts-of-Inv-loop casts-of-μ-loop
 casts-of-same-length t c = search needs
 
-casts-of-returns-2 :
-    (t : ℕ) →
-    casts-of-lts.Need-returns-2
-    (cast-once-below t, cast-once.Post)
-    (casts-of-at t)
-    casts-of.Post
-    casts-of-Inv-loop
-    casts-of-μ-loop
-casts-of-returns-2 t c = casts-refused (c .before .before .before .before .before .before .before .before .before .before .before .before .before .before .before .args .context) (probs (c .before .before .before .before .before .before .before .before .before .before .before .before .before .before .before .args .sat) (c .before .before .before .before .before .before .before .before .before .before .before .before .before .before .before .args .dissat)) (definition.search (c .before .before .before .before .before .before .before .before .before .before .before .before .before .before .before .args .context) (policyAt (c .before .before .before .before .before .before .before .before .before .before .before .before .before .before .before .args .pol .now) (c .before .before .before .before .before .before .before .before .before .before .before .before .before .before .before .args .r)) (definition.without (probs (c .before .before .before .before .before .before .before .before .before .before .before .before .before .before .before .args .sat) (c .before .before .before .before .before .before .before .before .before .before .before .before .before .before .before .args .dissat)))) (c .before .before .before .before .before .before .before .before .before .before .before .before .before .before .before .pre .1 .0) (c .before .before .before .before .before .before .before .before .before .before .enum-told .given .1) (c .before .before .before .before .before .before .before .before .before .loop .inv .0) (c .before .before .before .before .before .before .before .before .loop-test .taken) (c .before .before .before .before .before .before .cast-once .ensures) (c .before .stop .given .1)
+casts-of-returns-2 : (t : ℕ) →
+    casts-of-lts.Need-returns-2 (casts-of-calls t) (casts-of-at t) casts-of.Post casts-of-Inv-loop casts-of-μ-loop
+casts-of-returns-2 t c =
+    let stop = c .before .stop in
+    let at-cast-once = c .before .before .before .before .before .before in
+    let cast-once = at-cast-once .cast-once in
+    let loop-test = at-cast-once .before .before .loop-test in
+    let loop = at-cast-once .before .before .before .loop in
+    let enum-told = at-cast-once .before .before .before .before .enum-told in
+    let start = at-cast-once .before .before .before .before .before .before .before .before .before in
+    let args = start .args in
+    let pre = start .pre in
+    let p = probs (args .sat) (args .dissat) in
+    let q = policyAt (args .pol .now) (args .r) in
+    let plain = definition.search (args .context) q (definition.without p) in
+    casts-refused (args .context) p plain (pre .1 .0) (enum-told .given .1) (loop .inv .0) (loop-test .taken)
+    (cast-once .ensures) (stop .given .1)
 
-casts-of-enum-told-2 :
-    (t : ℕ) →
-    casts-of-lts.Need-enum-told-2
-    (cast-once-below t, cast-once.Post)
-    (casts-of-at t)
-    casts-of.Post
-    casts-of-Inv-loop
-    casts-of-μ-loop
+casts-of-enum-told-2 : (t : ℕ) →
+    casts-of-lts.Need-enum-told-2 (casts-of-calls t) (casts-of-at t) casts-of.Post casts-of-Inv-loop casts-of-μ-loop
 casts-of-enum-told-2 t c = search needs
 
-casts-of-add-number :
-    (t : ℕ) →
-    casts-of-lts.Need-add-number
-    (cast-once-below t, cast-once.Post)
-    (casts-of-at t)
-    casts-of.Post
-    casts-of-Inv-loop
-    casts-of-μ-loop
-casts-of-add-number t c = omega (arith, c .before .before .before .before .before .before .before .loop-test .taken)
+casts-of-add-number : (t : ℕ) →
+    casts-of-lts.Need-add-number (casts-of-calls t) (casts-of-at t) casts-of.Post casts-of-Inv-loop casts-of-μ-loop
+casts-of-add-number t c =
+    let loop-test = c .before .before .before .before .before .before .before .loop-test in
+    omega (arith, loop-test .taken)
 
-casts-of-loop-less :
-    (t : ℕ) →
-    casts-of-lts.Need-loop-less
-    (cast-once-below t, cast-once.Post)
-    (casts-of-at t)
-    casts-of.Post
-    casts-of-Inv-loop
-    casts-of-μ-loop
-casts-of-loop-less t c = omega (arith, c .before .before .before .before .before .before .before .loop-test .taken)
+casts-of-loop-less : (t : ℕ) →
+    casts-of-lts.Need-loop-less (casts-of-calls t) (casts-of-at t) casts-of.Post casts-of-Inv-loop casts-of-μ-loop
+casts-of-loop-less t c =
+    let loop-test = c .before .before .before .before .before .before .before .loop-test in
+    omega (arith, loop-test .taken)
 
-casts-of-loop-again :
-    (t : ℕ) →
-    casts-of-lts.Need-loop-again
-    (cast-once-below t, cast-once.Post)
-    (casts-of-at t)
-    casts-of.Post
-    casts-of-Inv-loop
-    casts-of-μ-loop
-casts-of-loop-again t c = (casts-go-on (c .before .before .before .before .before .before .before .before .before .before .before .before .before .before .args .context) (probs (c .before .before .before .before .before .before .before .before .before .before .before .before .before .before .args .sat) (c .before .before .before .before .before .before .before .before .before .before .before .before .before .before .args .dissat)) (definition.search (c .before .before .before .before .before .before .before .before .before .before .before .before .before .before .args .context) (policyAt (c .before .before .before .before .before .before .before .before .before .before .before .before .before .before .args .pol .now) (c .before .before .before .before .before .before .before .before .before .before .before .before .before .before .args .r)) (definition.without (probs (c .before .before .before .before .before .before .before .before .before .before .before .before .before .before .args .sat) (c .before .before .before .before .before .before .before .before .before .before .before .before .before .before .args .dissat)))) (c .before .before .before .before .before .before .before .before .before .before .before .before .before .before .pre .1 .0) (c .before .before .before .before .before .before .before .before .before .enum-told .given .1) (c .before .before .before .before .before .before .before .before .loop .inv .0) (c .before .before .before .before .before .before .before .loop-test .taken) (c .before .before .before .before .before .cast-once .ensures) (c .enum-told2 .given .1), omega (arith, c .before .before .before .before .before .before .before .loop-test .taken))
+casts-of-loop-again : (t : ℕ) →
+    casts-of-lts.Need-loop-again (casts-of-calls t) (casts-of-at t) casts-of.Post casts-of-Inv-loop casts-of-μ-loop
+casts-of-loop-again t c =
+    let cast-once = c .before .before .before .before .before .cast-once in
+    let at-loop-test = c .before .before .before .before .before .before .before in
+    let loop-test = at-loop-test .loop-test in
+    let loop = at-loop-test .before .loop in
+    let enum-told = at-loop-test .before .before .enum-told in
+    let start = at-loop-test .before .before .before .before .before .before .before in
+    let args = start .args in
+    let pre = start .pre in
+    let p = probs (args .sat) (args .dissat) in
+    let q = policyAt (args .pol .now) (args .r) in
+    let plain = definition.search (args .context) q (definition.without p) in (
+      casts-go-on (args .context) p plain (pre .1 .0) (enum-told .given .1) (loop .inv .0) (loop-test .taken)
+          (cast-once .ensures) (c .enum-told2 .given .1),
+      omega (arith, loop-test .taken),
+    )
 
-casts-of-same-length-2 : (t : ℕ) → casts-of-lts.Need-same-length-2 (
-  cast-once-below t,
-  cast-once.Post,
-) (casts-of-at t) casts-of.Post casts-of-Inv-loop casts-of-μ-loop
+casts-of-same-length-2 : (t : ℕ) →
+    casts-of-lts.Need-same-length-2 (casts-of-calls t) (casts-of-at t) casts-of.Post casts-of-Inv-loop casts-of-μ-loop
 casts-of-same-length-2 t c = search needs
 
-casts-of-returns-3 :
-    (t : ℕ) →
-    casts-of-lts.Need-returns-3
-    (cast-once-below t, cast-once.Post)
-    (casts-of-at t)
-    casts-of.Post
-    casts-of-Inv-loop
-    casts-of-μ-loop
-casts-of-returns-3 t c = casts-end (c .before .before .before .before .before .before .before .args .context) (probs (c .before .before .before .before .before .before .before .args .sat) (c .before .before .before .before .before .before .before .args .dissat)) (definition.search (c .before .before .before .before .before .before .before .args .context) (policyAt (c .before .before .before .before .before .before .before .args .pol .now) (c .before .before .before .before .before .before .before .args .r)) (definition.without (probs (c .before .before .before .before .before .before .before .args .sat) (c .before .before .before .before .before .before .before .args .dissat)))) (c .before .before .before .before .before .before .before .pre .1 .0) (c .before .before .enum-told .given .1) (c .before .loop .inv .0) (c .loop-test .left) (c .before .loop .inv .1)
+casts-of-returns-3 : (t : ℕ) →
+    casts-of-lts.Need-returns-3 (casts-of-calls t) (casts-of-at t) casts-of.Post casts-of-Inv-loop casts-of-μ-loop
+casts-of-returns-3 t c =
+    let loop = c .before .loop in
+    let enum-told = c .before .before .enum-told in
+    let start = c .before .before .before .before .before .before .before in
+    let args = start .args in
+    let pre = start .pre in
+    let p = probs (args .sat) (args .dissat) in
+    let q = policyAt (args .pol .now) (args .r) in
+    let plain = definition.search (args .context) q (definition.without p) in
+    casts-end (args .context) p plain (pre .1 .0) (enum-told .given .1) (loop .inv .0) (c .loop-test .left) (loop .inv .1)
 
-folded-returns : (t : ℕ) → folded-lts.Need-returns (
+-- ---- folded
+
+abbrev folded-calls : ℕ → folded-lts.Claims
+folded-calls t = (
   folded-of-reads.Asked,
   folded-of-reads.Learnt,
   search-below t,
   search′.Post,
   table-of-reads.Asked,
   table-of-reads.Learnt,
-) (folded-at t) folded.Post
-folded-returns t c = fold-stays (c .before .before .before .args .context) _ (c .before .before .before .pre .1 .1) (c .before .before .before .args .c) (c .if1 .taken) (c .before .before .before .pre .1 .0 .ready) (c .before .before .before .pre .1 .0 .table)
+)
 
-folded-enum-known-end : (t : ℕ) → folded-lts.Need-enum-known-end (
-  folded-of-reads.Asked,
-  folded-of-reads.Learnt,
-  search-below t,
-  search′.Post,
-  table-of-reads.Asked,
-  table-of-reads.Learnt,
-) (folded-at t) folded.Post
+folded-returns : (t : ℕ) → folded-lts.Need-returns (folded-calls t) (folded-at t) folded.Post
+folded-returns t c =
+    let start = c .before .before .before in
+    let args = start .args in
+    let pre = start .pre in
+    fold-stays (args .context) _ (pre .1 .1) (args .c) (c .if1 .taken) (pre .1 .0 .ready) (pre .1 .0 .table)
+
+folded-enum-known-end : (t : ℕ) → folded-lts.Need-enum-known-end (folded-calls t) (folded-at t) folded.Post
 folded-enum-known-end t c = search needs
 
-folded-returns-2 : (t : ℕ) → folded-lts.Need-returns-2 (
-  folded-of-reads.Asked,
-  folded-of-reads.Learnt,
-  search-below t,
-  search′.Post,
-  table-of-reads.Asked,
-  table-of-reads.Learnt,
-) (folded-at t) folded.Post
-folded-returns-2 t c = stops (c .before .before .before .before .before .before .before .pre .1 .0) _ (c .before .end .given .1)
+folded-returns-2 : (t : ℕ) → folded-lts.Need-returns-2 (folded-calls t) (folded-at t) folded.Post
+folded-returns-2 t c =
+    let end = c .before .end in
+    let pre = c .before .before .before .before .before .before .before .pre in
+    stops (pre .1 .0) _ (end .given .1)
 
-folded-enum-told : (t : ℕ) → folded-lts.Need-enum-told (
-  folded-of-reads.Asked,
-  folded-of-reads.Learnt,
-  search-below t,
-  search′.Post,
-  table-of-reads.Asked,
-  table-of-reads.Learnt,
-) (folded-at t) folded.Post
+folded-enum-told : (t : ℕ) → folded-lts.Need-enum-told (folded-calls t) (folded-at t) folded.Post
 folded-enum-told t c = search needs
 
-folded-folded-of-requires : (t : ℕ) → folded-lts.Need-folded-of-requires (
-  folded-of-reads.Asked,
-  folded-of-reads.Learnt,
-  search-below t,
-  search′.Post,
-  table-of-reads.Asked,
-  table-of-reads.Learnt,
-) (folded-at t) folded.Post
-folded-folded-of-requires t c κs = (doing-small (c .before .before .before .before .before .before .pre .1 .0) (c .before .before .before .before .before .before .pre .1 .1) .stored, doing-small (c .before .before .before .before .before .before .pre .1 .0) (c .before .before .before .before .before .before .pre .1 .1) .few)
+folded-folded-of-requires : (t : ℕ) → folded-lts.Need-folded-of-requires (folded-calls t) (folded-at t) folded.Post
+folded-folded-of-requires t c κs =
+    let pre = c .before .before .before .before .before .before .pre in
+    (doing-small (pre .1 .0) (pre .1 .1) .stored, doing-small (pre .1 .0) (pre .1 .1) .few)
 
-folded-search-requires : (t : ℕ) → folded-lts.Need-search-requires (
-  folded-of-reads.Asked,
-  folded-of-reads.Learnt,
-  search-below t,
-  search′.Post,
-  table-of-reads.Asked,
-  table-of-reads.Learnt,
-) (folded-at t) folded.Post
-folded-search-requires t c κs = (fold-falls-to (c .before .before .before .before .before .before .before .before .pre .1 .0) (c .before .before .before .before .before .before .before .before .pre .1 .1) (c .before .folded-of .ensures) (c .before .before .before .before .before .before .before .before .pre .0), fold-going (c .before .before .before .before .before .before .before .before .pre .1 .0) (c .before .before .before .before .before .before .before .before .pre .1 .1) (c .before .folded-of .ensures) (c .before .before .enum-told .given .1))
+folded-search-requires : (t : ℕ) → folded-lts.Need-search-requires (folded-calls t) (folded-at t) folded.Post
+folded-search-requires t c κs =
+    let folded-of = c .before .folded-of in
+    let enum-told = c .before .before .enum-told in
+    let pre = c .before .before .before .before .before .before .before .before .pre in (
+      fold-falls-to (pre .1 .0) (pre .1 .1) (folded-of .ensures) (pre .0),
+      fold-going (pre .1 .0) (pre .1 .1) (folded-of .ensures) (enum-told .given .1),
+    )
 
-folded-enum-known-no : (t : ℕ) → folded-lts.Need-enum-known-no (
-  folded-of-reads.Asked,
-  folded-of-reads.Learnt,
-  search-below t,
-  search′.Post,
-  table-of-reads.Asked,
-  table-of-reads.Learnt,
-) (folded-at t) folded.Post
+folded-enum-known-no : (t : ℕ) → folded-lts.Need-enum-known-no (folded-calls t) (folded-at t) folded.Post
 folded-enum-known-no t c = search needs
 
-folded-enum-known-s : (t : ℕ) → folded-lts.Need-enum-known-s (
-  folded-of-reads.Asked,
-  folded-of-reads.Learnt,
-  search-below t,
-  search′.Post,
-  table-of-reads.Asked,
-  table-of-reads.Learnt,
-) (folded-at t) folded.Post
+folded-enum-known-s : (t : ℕ) → folded-lts.Need-enum-known-s (folded-calls t) (folded-at t) folded.Post
 folded-enum-known-s t c = search needs
 
-folded-table-of-requires : (t : ℕ) → folded-lts.Need-table-of-requires (
-  folded-of-reads.Asked,
-  folded-of-reads.Learnt,
-  search-below t,
-  search′.Post,
-  table-of-reads.Asked,
-  table-of-reads.Learnt,
-) (folded-at t) folded.Post
-folded-table-of-requires t c κs = (c .before .before .before .before .before .before .search .ensures .ready .tables, searched-slot (c .before .before .before .before .before .before .search .ensures) _ (c .before .before .s .given .1) .1 .0)
+folded-table-of-requires : (t : ℕ) → folded-lts.Need-table-of-requires (folded-calls t) (folded-at t) folded.Post
+folded-table-of-requires t c κs =
+    let s = c .before .before .s in
+    let searched = c .before .before .before .before .before .before .search in
+    (searched .ensures .ready .tables, searched-slot (searched .ensures) _ (s .given .1) .1 .0)
 
-folded-same-length : (t : ℕ) → folded-lts.Need-same-length (
-  folded-of-reads.Asked,
-  folded-of-reads.Learnt,
-  search-below t,
-  search′.Post,
-  table-of-reads.Asked,
-  table-of-reads.Learnt,
-) (folded-at t) folded.Post
-folded-same-length t c = ready-long (c .before .before .before .before .before .before .before .before .before .before .before .before .before .before .pre .1 .0 .ready) (c .before .before .before .before .before .search .ensures .ready)
+folded-same-length : (t : ℕ) → folded-lts.Need-same-length (folded-calls t) (folded-at t) folded.Post
+folded-same-length t c =
+    let searched = c .before .before .before .before .before .search in
+    let earlier = c .before .before .before .before .before .before .before .before .before .before .before .before in
+    let pre = earlier .before .before .pre in
+    ready-long (pre .1 .0 .ready) (searched .ensures .ready)
 
-folded-returns-3 : (t : ℕ) → folded-lts.Need-returns-3 (
-  folded-of-reads.Asked,
-  folded-of-reads.Learnt,
-  search-below t,
-  search′.Post,
-  table-of-reads.Asked,
-  table-of-reads.Learnt,
-) (folded-at t) folded.Post
-folded-returns-3 t c = folded-no (c .before .before .before .before .before .before .before .before .before .before .before .before .before .before .pre .1 .0) (c .before .before .before .before .before .before .before .before .before .before .before .before .before .before .pre .1 .1) (c .before .before .before .before .before .before .before .folded-of .ensures) (c .before .before .before .before .before .before .before .before .before .before .before .before .before .before .args .context) (c .before .before .before .before .before .before .before .before .before .before .before .before .before .before .args .sat) (c .before .before .before .before .before .before .before .before .before .before .before .if1 .left) (c .before .before .before .before .before .before .before .before .enum-told .given .1) (c .before .before .before .before .before .search .ensures) (c .before .no .given .1)
+folded-returns-3 : (t : ℕ) → folded-lts.Need-returns-3 (folded-calls t) (folded-at t) folded.Post
+folded-returns-3 t c =
+    let no = c .before .no in
+    let searched = c .before .before .before .before .before .search in
+    let at-folded-of = c .before .before .before .before .before .before .before in
+    let folded-of = at-folded-of .folded-of in
+    let enum-told = at-folded-of .before .enum-told in
+    let if1 = at-folded-of .before .before .before .before .if1 in
+    let start = at-folded-of .before .before .before .before .before .before .before in
+    let args = start .args in
+    let pre = start .pre in
+    folded-no (pre .1 .0) (pre .1 .1) (folded-of .ensures) (args .context) (args .sat) (if1 .left) (enum-told .given .1)
+    (searched .ensures) (no .given .1)
 
-folded-same-length-2 : (t : ℕ) → folded-lts.Need-same-length-2 (
-  folded-of-reads.Asked,
-  folded-of-reads.Learnt,
-  search-below t,
-  search′.Post,
-  table-of-reads.Asked,
-  table-of-reads.Learnt,
-) (folded-at t) folded.Post
-folded-same-length-2 t c = ready-long (c .before .before .before .before .before .before .before .before .before .before .before .before .before .before .before .before .pre .1 .0 .ready) (c .before .before .before .before .before .before .before .search .ensures .ready)
+folded-same-length-2 : (t : ℕ) → folded-lts.Need-same-length-2 (folded-calls t) (folded-at t) folded.Post
+folded-same-length-2 t c =
+    let at-search = c .before .before .before .before .before .before .before in
+    let searched = at-search .search in
+    let pre = at-search .before .before .before .before .before .before .before .before .before .pre in
+    ready-long (pre .1 .0 .ready) (searched .ensures .ready)
 
-folded-returns-4 : (t : ℕ) → folded-lts.Need-returns-4 (
-  folded-of-reads.Asked,
-  folded-of-reads.Learnt,
-  search-below t,
-  search′.Post,
-  table-of-reads.Asked,
-  table-of-reads.Learnt,
-) (folded-at t) folded.Post
-folded-returns-4 t c = folded-yes (c .before .before .before .before .before .before .before .before .before .before .before .before .before .before .before .before .pre .1 .0) (c .before .before .before .before .before .before .before .before .before .before .before .before .before .before .before .before .pre .1 .1) (c .before .before .before .before .before .before .before .before .before .folded-of .ensures) (c .before .before .before .before .before .before .before .before .before .before .before .before .before .before .before .before .args .context) (c .before .before .before .before .before .before .before .before .before .before .before .before .before .before .before .before .args .sat) (c .before .before .before .before .before .before .before .before .before .before .before .before .before .if1 .left) (c .before .before .before .before .before .before .before .before .before .before .enum-told .given .1) (c .before .before .before .before .before .before .before .search .ensures) (c .before .before .before .s .given .1) (c .table-of .ensures)
+folded-returns-4 : (t : ℕ) → folded-lts.Need-returns-4 (folded-calls t) (folded-at t) folded.Post
+folded-returns-4 t c =
+    let s = c .before .before .before .s in
+    let at-search = c .before .before .before .before .before .before .before in
+    let searched = at-search .search in
+    let folded-of = at-search .before .before .folded-of in
+    let enum-told = at-search .before .before .before .enum-told in
+    let at-if1 = at-search .before .before .before .before .before .before in
+    let if1 = at-if1 .if1 in
+    let start = at-if1 .before .before .before in
+    let args = start .args in
+    let pre = start .pre in
+    folded-yes (pre .1 .0) (pre .1 .1) (folded-of .ensures) (args .context) (args .sat) (if1 .left) (enum-told .given .1)
+    (searched .ensures) (s .given .1) (c .table-of .ensures)
 
-leaves-cast-pk-h : (t : ℕ) → leaves-lts.Need-cast-pk-h (
+-- ---- leaves
+
+abbrev leaves-calls : ℕ → leaves-lts.Claims
+leaves-calls t = (
   pk-h-reads.Asked,
   pk-h-reads.Learnt,
   empty-reads.Asked,
@@ -1368,286 +1218,187 @@ leaves-cast-pk-h : (t : ℕ) → leaves-lts.Need-cast-pk-h (
   pk-k-reads.Learnt,
   leaf-of-reads.Asked,
   leaf-of-reads.Learnt,
-) (leaves-at t) leaves.Post
-leaves-cast-pk-h t c = omega (arith, named-low (c .before .before .before .before .pre .1 .0 .classed .good) (c .before .before .before .before .pre .1 .0 .named))
+)
 
-leaves-pk-h-requires : (t : ℕ) → leaves-lts.Need-pk-h-requires (
-  pk-h-reads.Asked,
-  pk-h-reads.Learnt,
-  empty-reads.Asked,
-  empty-reads.Learnt,
-  wrapped-below t,
-  wrapped.Post,
-  pk-k-reads.Asked,
-  pk-k-reads.Learnt,
-  leaf-of-reads.Asked,
-  leaf-of-reads.Learnt,
-) (leaves-at t) leaves.Post
+leaves-cast-pk-h : (t : ℕ) → leaves-lts.Need-cast-pk-h (leaves-calls t) (leaves-at t) leaves.Post
+leaves-cast-pk-h t c =
+    let pre = c .before .before .before .before .pre in
+    omega (arith, named-low (pre .1 .0 .classed .good) (pre .1 .0 .named))
+
+leaves-pk-h-requires : (t : ℕ) → leaves-lts.Need-pk-h-requires (leaves-calls t) (leaves-at t) leaves.Post
 leaves-pk-h-requires t c κs = tt
 
-leaves-empty-requires : (t : ℕ) → leaves-lts.Need-empty-requires (
-  pk-h-reads.Asked,
-  pk-h-reads.Learnt,
-  empty-reads.Asked,
-  empty-reads.Learnt,
-  wrapped-below t,
-  wrapped.Post,
-  pk-k-reads.Asked,
-  pk-k-reads.Learnt,
-  leaf-of-reads.Asked,
-  leaf-of-reads.Learnt,
-) (leaves-at t) leaves.Post
+leaves-empty-requires : (t : ℕ) → leaves-lts.Need-empty-requires (leaves-calls t) (leaves-at t) leaves.Post
 leaves-empty-requires t c κs = tt
 
-leaves-wrapped-requires : (t : ℕ) → leaves-lts.Need-wrapped-requires (
-  pk-h-reads.Asked,
-  pk-h-reads.Learnt,
-  empty-reads.Asked,
-  empty-reads.Learnt,
-  wrapped-below t,
-  wrapped.Post,
-  pk-k-reads.Asked,
-  pk-k-reads.Learnt,
-  leaf-of-reads.Asked,
-  leaf-of-reads.Learnt,
-) (leaves-at t) leaves.Post
-leaves-wrapped-requires t c κs = (goes-down (c .before .before .before .before .before .before .args .pol .now) (c .before .before .before .before .before .before .args .r) (c .before .before .before .before .before .before .args .dissat) 8 14 (omega arith) (c .before .before .before .before .before .before .pre .0), (empty-doing (c .empty .ensures) (c .before .before .before .before .before .before .pre .1 .0), is-pk-h (c .before .before .before .before .before .before .args .work .now) (c .before .before .before .before .before .before .args .context) (c .before .before .before .before .before .before .args .r) (c .before .pk-h .ensures)))
+leaves-wrapped-requires : (t : ℕ) → leaves-lts.Need-wrapped-requires (leaves-calls t) (leaves-at t) leaves.Post
+leaves-wrapped-requires t c κs =
+    let pk-h = c .before .pk-h in
+    let start = c .before .before .before .before .before .before in
+    let args = start .args in
+    let pre = start .pre in (
+      below (omega arith) (pre .0),
+      (
+        empty-doing (c .empty .ensures) (pre .1 .0),
+        offers-as (pk-h .ensures) (pk-h-offers (args .work .now) (args .context) (args .r)),
+      ),
+    )
 
-leaves-cast-pk-k : (t : ℕ) → leaves-lts.Need-cast-pk-k (
-  pk-h-reads.Asked,
-  pk-h-reads.Learnt,
-  empty-reads.Asked,
-  empty-reads.Learnt,
-  wrapped-below t,
-  wrapped.Post,
-  pk-k-reads.Asked,
-  pk-k-reads.Learnt,
-  leaf-of-reads.Asked,
-  leaf-of-reads.Learnt,
-) (leaves-at t) leaves.Post
-leaves-cast-pk-k t c = omega (arith, named-low (c .before .before .before .before .before .before .before .before .before .before .pre .1 .0 .classed .good) (c .before .before .before .before .before .before .before .before .before .before .pre .1 .0 .named))
+leaves-cast-pk-k : (t : ℕ) → leaves-lts.Need-cast-pk-k (leaves-calls t) (leaves-at t) leaves.Post
+leaves-cast-pk-k t c =
+    let pre = c .before .before .before .before .before .before .before .before .before .before .pre in
+    omega (arith, named-low (pre .1 .0 .classed .good) (pre .1 .0 .named))
 
-leaves-pk-k-requires : (t : ℕ) → leaves-lts.Need-pk-k-requires (
-  pk-h-reads.Asked,
-  pk-h-reads.Learnt,
-  empty-reads.Asked,
-  empty-reads.Learnt,
-  wrapped-below t,
-  wrapped.Post,
-  pk-k-reads.Asked,
-  pk-k-reads.Learnt,
-  leaf-of-reads.Asked,
-  leaf-of-reads.Learnt,
-) (leaves-at t) leaves.Post
+leaves-pk-k-requires : (t : ℕ) → leaves-lts.Need-pk-k-requires (leaves-calls t) (leaves-at t) leaves.Post
 leaves-pk-k-requires t c κs = tt
 
-leaves-wrapped-requires-2 : (t : ℕ) → leaves-lts.Need-wrapped-requires-2 (
-  pk-h-reads.Asked,
-  pk-h-reads.Learnt,
-  empty-reads.Asked,
-  empty-reads.Learnt,
-  wrapped-below t,
-  wrapped.Post,
-  pk-k-reads.Asked,
-  pk-k-reads.Learnt,
-  leaf-of-reads.Asked,
-  leaf-of-reads.Learnt,
-) (leaves-at t) leaves.Post
-leaves-wrapped-requires-2 t c κs = (goes-down (c .before .before .before .before .before .before .before .before .before .before .before .args .pol .now) (c .before .before .before .before .before .before .before .before .before .before .before .args .r) (c .before .before .before .before .before .before .before .before .before .before .before .args .dissat) 8 14 (omega arith) (c .before .before .before .before .before .before .before .before .before .before .before .pre .0), (doing-next (empty-doing (c .before .before .before .before .before .empty .ensures) (c .before .before .before .before .before .before .before .before .before .before .before .pre .1 .0)) _ (c .before .before .before .before .wrapped .ensures), is-pk-k (c .before .before .before .before .wrapped .last .1 .1 .0) (c .before .before .before .before .before .before .before .before .before .before .before .args .context) (c .before .before .before .before .before .before .before .before .before .before .before .args .r) (c .pk-k .ensures)))
+leaves-wrapped-requires-2 : (t : ℕ) → leaves-lts.Need-wrapped-requires-2 (leaves-calls t) (leaves-at t) leaves.Post
+leaves-wrapped-requires-2 t c κs =
+    let wrapped = c .before .before .before .before .wrapped in
+    let empty = c .before .before .before .before .before .empty in
+    let start = c .before .before .before .before .before .before .before .before .before .before .before in
+    let args = start .args in
+    let pre = start .pre in (
+      below (omega arith) (pre .0),
+      (
+        doing-next (empty-doing (empty .ensures) (pre .1 .0)) _ (wrapped .ensures),
+        offers-as (c .pk-k .ensures) (pk-k-offers (wrapped .last .1 .1 .0) (args .context) (args .r)),
+      ),
+    )
 
-leaves-same-length : (t : ℕ) → leaves-lts.Need-same-length (
-  pk-h-reads.Asked,
-  pk-h-reads.Learnt,
-  empty-reads.Asked,
-  empty-reads.Learnt,
-  wrapped-below t,
-  wrapped.Post,
-  pk-k-reads.Asked,
-  pk-k-reads.Learnt,
-  leaf-of-reads.Asked,
-  leaf-of-reads.Learnt,
-) (leaves-at t) leaves.Post
-leaves-same-length t c = ready-long (c .before .before .before .before .before .before .before .before .before .before .before .before .before .before .pre .1 .0 .ready) (c .before .before .wrapped2 .ensures .ready)
+leaves-same-length : (t : ℕ) → leaves-lts.Need-same-length (leaves-calls t) (leaves-at t) leaves.Post
+leaves-same-length t c =
+    let wrapped2 = c .before .before .wrapped2 in
+    let earlier = c .before .before .before .before .before .before .before .before .before .before .before .before in
+    let pre = earlier .before .before .pre in
+    ready-long (pre .1 .0 .ready) (wrapped2 .ensures .ready)
 
-leaves-returns : (t : ℕ) → leaves-lts.Need-returns (
-  pk-h-reads.Asked,
-  pk-h-reads.Learnt,
-  empty-reads.Asked,
-  empty-reads.Learnt,
-  wrapped-below t,
-  wrapped.Post,
-  pk-k-reads.Asked,
-  pk-k-reads.Learnt,
-  leaf-of-reads.Asked,
-  leaf-of-reads.Learnt,
-) (leaves-at t) leaves.Post
-leaves-returns t c = body-key (c .before .before .before .before .before .before .before .before .before .before .before .before .before .before .args .context) (c .before .before .before .before .before .before .before .before .before .before .before .before .before .before .args .sat) (c .before .before .before .before .before .before .before .before .before .before .before .before .before .before .args .dissat) (leaf-key (c .before .before .before .before .before .before .before .before .before .before .before .before .before .before .pre .1 .1) (c .before .before .before .before .before .before .before .before .before .before .before .if1 .taken)) (c .before .before .before .before .before .before .before .before .before .pk-h .ensures) (c .before .before .before .pk-k .ensures) (c .before .before .before .before .before .before .before .before .empty .ensures) (c .before .before .before .before .before .before .before .wrapped .ensures) (c .before .before .wrapped2 .ensures)
+leaves-returns : (t : ℕ) → leaves-lts.Need-returns (leaves-calls t) (leaves-at t) leaves.Post
+leaves-returns t c =
+    let wrapped2 = c .before .before .wrapped2 in
+    let pk-k = c .before .before .before .pk-k in
+    let at-wrapped = c .before .before .before .before .before .before .before in
+    let wrapped = at-wrapped .wrapped in
+    let empty = at-wrapped .before .empty in
+    let pk-h = at-wrapped .before .before .pk-h in
+    let if1 = at-wrapped .before .before .before .before .if1 in
+    let start = at-wrapped .before .before .before .before .before .before .before in
+    let args = start .args in
+    let pre = start .pre in
+    body-key (args .context) (args .sat) (args .dissat) (leaf-key (pre .1 .1) (if1 .taken)) (pk-h .ensures) (pk-k .ensures)
+    (empty .ensures) (wrapped .ensures) (wrapped2 .ensures)
 
-leaves-cast-leaf-of : (t : ℕ) → leaves-lts.Need-cast-leaf-of (
-  pk-h-reads.Asked,
-  pk-h-reads.Learnt,
-  empty-reads.Asked,
-  empty-reads.Learnt,
-  wrapped-below t,
-  wrapped.Post,
-  pk-k-reads.Asked,
-  pk-k-reads.Learnt,
-  leaf-of-reads.Asked,
-  leaf-of-reads.Learnt,
-) (leaves-at t) leaves.Post
-leaves-cast-leaf-of t c = omega (arith, named-low (c .before .before .before .before .pre .1 .0 .classed .good) (c .before .before .before .before .pre .1 .0 .named))
+leaves-cast-leaf-of : (t : ℕ) → leaves-lts.Need-cast-leaf-of (leaves-calls t) (leaves-at t) leaves.Post
+leaves-cast-leaf-of t c =
+    let pre = c .before .before .before .before .pre in
+    omega (arith, named-low (pre .1 .0 .classed .good) (pre .1 .0 .named))
 
-leaves-leaf-of-requires : (t : ℕ) → leaves-lts.Need-leaf-of-requires (
-  pk-h-reads.Asked,
-  pk-h-reads.Learnt,
-  empty-reads.Asked,
-  empty-reads.Learnt,
-  wrapped-below t,
-  wrapped.Post,
-  pk-k-reads.Asked,
-  pk-k-reads.Learnt,
-  leaf-of-reads.Asked,
-  leaf-of-reads.Learnt,
-) (leaves-at t) leaves.Post
+leaves-leaf-of-requires : (t : ℕ) → leaves-lts.Need-leaf-of-requires (leaves-calls t) (leaves-at t) leaves.Post
 leaves-leaf-of-requires t c κs = tt
 
-leaves-empty-requires-2 : (t : ℕ) → leaves-lts.Need-empty-requires-2 (
-  pk-h-reads.Asked,
-  pk-h-reads.Learnt,
-  empty-reads.Asked,
-  empty-reads.Learnt,
-  wrapped-below t,
-  wrapped.Post,
-  pk-k-reads.Asked,
-  pk-k-reads.Learnt,
-  leaf-of-reads.Asked,
-  leaf-of-reads.Learnt,
-) (leaves-at t) leaves.Post
+leaves-empty-requires-2 : (t : ℕ) → leaves-lts.Need-empty-requires-2 (leaves-calls t) (leaves-at t) leaves.Post
 leaves-empty-requires-2 t c κs = tt
 
-leaves-wrapped-requires-3 : (t : ℕ) → leaves-lts.Need-wrapped-requires-3 (
-  pk-h-reads.Asked,
-  pk-h-reads.Learnt,
-  empty-reads.Asked,
-  empty-reads.Learnt,
-  wrapped-below t,
-  wrapped.Post,
-  pk-k-reads.Asked,
-  pk-k-reads.Learnt,
-  leaf-of-reads.Asked,
-  leaf-of-reads.Learnt,
-) (leaves-at t) leaves.Post
-leaves-wrapped-requires-3 t c κs = (goes-down (c .before .before .before .before .before .before .args .pol .now) (c .before .before .before .before .before .before .args .r) (c .before .before .before .before .before .before .args .dissat) 8 14 (omega arith) (c .before .before .before .before .before .before .pre .0), (empty-doing (c .empty2 .ensures) (c .before .before .before .before .before .before .pre .1 .0), c .before .leaf-of .ensures .offers (c .before .before .before .before .before .before .args .work .now)))
+leaves-wrapped-requires-3 : (t : ℕ) → leaves-lts.Need-wrapped-requires-3 (leaves-calls t) (leaves-at t) leaves.Post
+leaves-wrapped-requires-3 t c κs =
+    let leaf-of = c .before .leaf-of in
+    let start = c .before .before .before .before .before .before in
+    let args = start .args in
+    let pre = start .pre in
+    (below (omega arith) (pre .0), (empty-doing (c .empty2 .ensures) (pre .1 .0), leaf-of .ensures .offers (args .work .now)))
 
-leaves-same-length-2 : (t : ℕ) → leaves-lts.Need-same-length-2 (
-  pk-h-reads.Asked,
-  pk-h-reads.Learnt,
-  empty-reads.Asked,
-  empty-reads.Learnt,
-  wrapped-below t,
-  wrapped.Post,
-  pk-k-reads.Asked,
-  pk-k-reads.Learnt,
-  leaf-of-reads.Asked,
-  leaf-of-reads.Learnt,
-) (leaves-at t) leaves.Post
-leaves-same-length-2 t c = ready-long (c .before .before .before .before .before .before .before .before .before .pre .1 .0 .ready) (c .before .before .wrapped3 .ensures .ready)
+leaves-same-length-2 : (t : ℕ) → leaves-lts.Need-same-length-2 (leaves-calls t) (leaves-at t) leaves.Post
+leaves-same-length-2 t c =
+    let wrapped3 = c .before .before .wrapped3 in
+    let pre = c .before .before .before .before .before .before .before .before .before .pre in
+    ready-long (pre .1 .0 .ready) (wrapped3 .ensures .ready)
 
-leaves-returns-2 : (t : ℕ) → leaves-lts.Need-returns-2 (
-  pk-h-reads.Asked,
-  pk-h-reads.Learnt,
-  empty-reads.Asked,
-  empty-reads.Learnt,
-  wrapped-below t,
-  wrapped.Post,
-  pk-k-reads.Asked,
-  pk-k-reads.Learnt,
-  leaf-of-reads.Asked,
-  leaf-of-reads.Learnt,
-) (leaves-at t) leaves.Post
-leaves-returns-2 t c = body-leaf (c .before .before .before .before .before .before .before .before .before .args .context) (c .before .before .before .before .before .before .before .before .before .args .sat) (c .before .before .before .before .before .before .before .before .before .args .dissat) (c .before .before .before .before .leaf-of .ensures) (c .before .before .before .before .before .before .before .before .before .pre .1 .1) (c .before .before .before .before .before .before .before .before .before .pre .1 .0 .formed) (c .before .before .before .before .before .before .if1 .left) (c .before .before .before .empty2 .ensures) (c .before .before .wrapped3 .ensures)
+leaves-returns-2 : (t : ℕ) → leaves-lts.Need-returns-2 (leaves-calls t) (leaves-at t) leaves.Post
+leaves-returns-2 t c =
+    let wrapped3 = c .before .before .wrapped3 in
+    let empty2 = c .before .before .before .empty2 in
+    let leaf-of = c .before .before .before .before .leaf-of in
+    let at-if1 = c .before .before .before .before .before .before in
+    let if1 = at-if1 .if1 in
+    let start = at-if1 .before .before .before in
+    let args = start .args in
+    let pre = start .pre in
+    body-leaf (args .context) (args .sat) (args .dissat) (leaf-of .ensures) (pre .1 .1) (pre .1 .0 .formed) (if1 .left)
+    (empty2 .ensures) (wrapped3 .ensures)
 
-multi-all-keys-requires : (t : ℕ) → multi-lts.Need-all-keys-requires (
+-- ---- multi
+
+abbrev multi-calls : ℕ → multi-lts.Claims
+multi-calls t = (
   all-keys-reads.Asked,
   all-keys-reads.Learnt,
   multi-of-reads.Asked,
   multi-of-reads.Learnt,
   wrapped-below t,
   wrapped.Post,
-) (multi-at t) multi.Post
-multi-all-keys-requires t c κs = (c .before .before .pre .1 .0 .classed .good, (doing-small (c .before .before .pre .1 .0) (c .before .before .pre .1 .1) .stored, (c .before .before .pre .1 .1 .isThresh, sym (c .before .before .pre .1 .1 .isN))))
+)
 
-multi-cast-multi-of : (t : ℕ) → multi-lts.Need-cast-multi-of (
-  all-keys-reads.Asked,
-  all-keys-reads.Learnt,
-  multi-of-reads.Asked,
-  multi-of-reads.Learnt,
-  wrapped-below t,
-  wrapped.Post,
-) (multi-at t) multi.Post
-multi-cast-multi-of t c = omega (arith, doing-small (c .before .before .before .before .pre .1 .0) (c .before .before .before .before .pre .1 .1) .stored)
+multi-all-keys-requires : (t : ℕ) → multi-lts.Need-all-keys-requires (multi-calls t) (multi-at t) multi.Post
+multi-all-keys-requires t c κs =
+    let pre = c .before .before .pre in
+    (pre .1 .0 .classed .good, (doing-small (pre .1 .0) (pre .1 .1) .stored, (pre .1 .1 .isThresh, sym (pre .1 .1 .isN))))
 
-multi-cast-multi-of-2 : (t : ℕ) → multi-lts.Need-cast-multi-of-2 (
-  all-keys-reads.Asked,
-  all-keys-reads.Learnt,
-  multi-of-reads.Asked,
-  multi-of-reads.Learnt,
-  wrapped-below t,
-  wrapped.Post,
-) (multi-at t) multi.Post
-multi-cast-multi-of-2 t c = omega (arith, doing-small (c .before .before .before .before .pre .1 .0) (c .before .before .before .before .pre .1 .1) .few)
+multi-cast-multi-of : (t : ℕ) → multi-lts.Need-cast-multi-of (multi-calls t) (multi-at t) multi.Post
+multi-cast-multi-of t c =
+    let pre = c .before .before .before .before .pre in
+    omega (arith, doing-small (pre .1 .0) (pre .1 .1) .stored)
 
-multi-multi-of-requires : (t : ℕ) → multi-lts.Need-multi-of-requires (
-  all-keys-reads.Asked,
-  all-keys-reads.Learnt,
-  multi-of-reads.Asked,
-  multi-of-reads.Learnt,
-  wrapped-below t,
-  wrapped.Post,
-) (multi-at t) multi.Post
-multi-multi-of-requires t c κs = (doing-small (c .before .before .before .before .pre .1 .0) (c .before .before .before .before .pre .1 .1) .one, doing-small (c .before .before .before .before .pre .1 .0) (c .before .before .before .before .pre .1 .1) .most)
+multi-cast-multi-of-2 : (t : ℕ) → multi-lts.Need-cast-multi-of-2 (multi-calls t) (multi-at t) multi.Post
+multi-cast-multi-of-2 t c =
+    let pre = c .before .before .before .before .pre in
+    omega (arith, doing-small (pre .1 .0) (pre .1 .1) .few)
 
-multi-wrapped-requires : (t : ℕ) → multi-lts.Need-wrapped-requires (
-  all-keys-reads.Asked,
-  all-keys-reads.Learnt,
-  multi-of-reads.Asked,
-  multi-of-reads.Learnt,
-  wrapped-below t,
-  wrapped.Post,
-) (multi-at t) multi.Post
-multi-wrapped-requires t c κs = (falls-to (c .before .before .before .before .before .before .args .pol .now) (c .before .before .before .before .before .before .args .r) (c .before .before .before .before .before .before .args .dissat) 8 13 (omega arith) (c .before .before .before .before .before .before .pre .0), (c .before .before .before .before .before .before .pre .1 .0, c .before .multi-of .ensures .offers (c .before .before .before .before .before .before .args .work .now) (doing-small (c .before .before .before .before .before .before .pre .1 .0) (c .before .before .before .before .before .before .pre .1 .1) .few)))
+multi-multi-of-requires : (t : ℕ) → multi-lts.Need-multi-of-requires (multi-calls t) (multi-at t) multi.Post
+multi-multi-of-requires t c κs =
+    let pre = c .before .before .before .before .pre in
+    (doing-small (pre .1 .0) (pre .1 .1) .one, doing-small (pre .1 .0) (pre .1 .1) .most)
 
-multi-same-length : (t : ℕ) → multi-lts.Need-same-length (
-  all-keys-reads.Asked,
-  all-keys-reads.Learnt,
-  multi-of-reads.Asked,
-  multi-of-reads.Learnt,
-  wrapped-below t,
-  wrapped.Post,
-) (multi-at t) multi.Post
-multi-same-length t c = ready-long (c .before .before .before .before .before .before .before .before .before .pre .1 .0 .ready) (c .before .before .wrapped .ensures .ready)
+multi-wrapped-requires : (t : ℕ) → multi-lts.Need-wrapped-requires (multi-calls t) (multi-at t) multi.Post
+multi-wrapped-requires t c κs =
+    let multi-of = c .before .multi-of in
+    let start = c .before .before .before .before .before .before in
+    let args = start .args in
+    let pre = start .pre in (
+      below (omega arith) (pre .0),
+      (pre .1 .0, multi-of .ensures .offers (args .work .now) (doing-small (pre .1 .0) (pre .1 .1) .few)),
+    )
 
-multi-returns : (t : ℕ) → multi-lts.Need-returns (
-  all-keys-reads.Asked,
-  all-keys-reads.Learnt,
-  multi-of-reads.Asked,
-  multi-of-reads.Learnt,
-  wrapped-below t,
-  wrapped.Post,
-) (multi-at t) multi.Post
-multi-returns t c = multi-yes (c .before .before .before .before .before .before .before .before .before .args .context) (c .before .before .before .before .before .before .before .before .before .args .sat) (c .before .before .before .before .before .before .before .before .before .pre .1 .0) (c .before .before .before .before .before .before .before .before .before .pre .1 .1) (c .before .before .before .before .before .before .all-keys .ensures) (c .before .before .before .before .before .if1 .taken) (c .before .before .before .before .multi-of .ensures) (c .before .before .wrapped .ensures)
+multi-same-length : (t : ℕ) → multi-lts.Need-same-length (multi-calls t) (multi-at t) multi.Post
+multi-same-length t c =
+    let wrapped = c .before .before .wrapped in
+    let pre = c .before .before .before .before .before .before .before .before .before .pre in
+    ready-long (pre .1 .0 .ready) (wrapped .ensures .ready)
 
-multi-returns-2 : (t : ℕ) → multi-lts.Need-returns-2 (
-  all-keys-reads.Asked,
-  all-keys-reads.Learnt,
-  multi-of-reads.Asked,
-  multi-of-reads.Learnt,
-  wrapped-below t,
-  wrapped.Post,
-) (multi-at t) multi.Post
-multi-returns-2 t c = multi-no (c .before .before .before .before .args .context) (c .before .before .before .before .args .sat) (c .before .before .before .before .pre .1 .0) (c .before .before .before .before .pre .1 .1) (c .before .all-keys .ensures) (c .if1 .left)
+multi-returns : (t : ℕ) → multi-lts.Need-returns (multi-calls t) (multi-at t) multi.Post
+multi-returns t c =
+    let wrapped = c .before .before .wrapped in
+    let multi-of = c .before .before .before .before .multi-of in
+    let if1 = c .before .before .before .before .before .if1 in
+    let at-all-keys = c .before .before .before .before .before .before in
+    let all-keys = at-all-keys .all-keys in
+    let start = at-all-keys .before .before .before in
+    let args = start .args in
+    let pre = start .pre in
+    multi-yes (args .context) (args .sat) (pre .1 .0) (pre .1 .1) (all-keys .ensures) (if1 .taken) (multi-of .ensures)
+    (wrapped .ensures)
 
-or-body-child-requires : (t : ℕ) → or-body-lts.Need-child-requires (
+multi-returns-2 : (t : ℕ) → multi-lts.Need-returns-2 (multi-calls t) (multi-at t) multi.Post
+multi-returns-2 t c =
+    let all-keys = c .before .all-keys in
+    let start = c .before .before .before .before in
+    let args = start .args in
+    let pre = start .pre in
+    multi-no (args .context) (args .sat) (pre .1 .0) (pre .1 .1) (all-keys .ensures) (c .if1 .left)
+
+-- ---- or_body
+
+abbrev or-body-calls : ℕ → or-body-lts.Claims
+or-body-calls t = (
   child-reads.Asked,
   child-reads.Learnt,
   weights-reads.Asked,
@@ -1662,722 +1413,649 @@ or-body-child-requires : (t : ℕ) → or-body-lts.Need-child-requires (
   or-pairings-reads.Learnt,
   stage-below t,
   stage.Post,
-) (or-body-at t) or-body.Post
+)
+
+or-body-child-requires : (t : ℕ) → or-body-lts.Need-child-requires (or-body-calls t) (or-body-at t) or-body.Post
 or-body-child-requires t c κs = tt
 
-or-body-child-requires-2 : (t : ℕ) → or-body-lts.Need-child-requires-2 (
-  child-reads.Asked,
-  child-reads.Learnt,
-  weights-reads.Asked,
-  weights-reads.Learnt,
-  empty-reads.Asked,
-  empty-reads.Learnt,
-  and-ors-below t,
-  and-ors.Post,
-  or-asks-reads.Asked,
-  or-asks-reads.Learnt,
-  or-pairings-reads.Asked,
-  or-pairings-reads.Learnt,
-  stage-below t,
-  stage.Post,
-) (or-body-at t) or-body.Post
+or-body-child-requires-2 : (t : ℕ) → or-body-lts.Need-child-requires-2 (or-body-calls t) (or-body-at t) or-body.Post
 or-body-child-requires-2 t c κs = tt
 
-or-body-weights-requires : (t : ℕ) → or-body-lts.Need-weights-requires (
-  child-reads.Asked,
-  child-reads.Learnt,
-  weights-reads.Asked,
-  weights-reads.Learnt,
-  empty-reads.Asked,
-  empty-reads.Learnt,
-  and-ors-below t,
-  and-ors.Post,
-  or-asks-reads.Asked,
-  or-asks-reads.Learnt,
-  or-pairings-reads.Asked,
-  or-pairings-reads.Learnt,
-  stage-below t,
-  stage.Post,
-) (or-body-at t) or-body.Post
+or-body-weights-requires : (t : ℕ) → or-body-lts.Need-weights-requires (or-body-calls t) (or-body-at t) or-body.Post
 or-body-weights-requires t c κs = tt
 
-or-body-empty-requires : (t : ℕ) → or-body-lts.Need-empty-requires (
-  child-reads.Asked,
-  child-reads.Learnt,
-  weights-reads.Asked,
-  weights-reads.Learnt,
-  empty-reads.Asked,
-  empty-reads.Learnt,
-  and-ors-below t,
-  and-ors.Post,
-  or-asks-reads.Asked,
-  or-asks-reads.Learnt,
-  or-pairings-reads.Asked,
-  or-pairings-reads.Learnt,
-  stage-below t,
-  stage.Post,
-) (or-body-at t) or-body.Post
+or-body-empty-requires : (t : ℕ) → or-body-lts.Need-empty-requires (or-body-calls t) (or-body-at t) or-body.Post
 or-body-empty-requires t c κs = tt
 
-or-body-and-ors-requires : (t : ℕ) → or-body-lts.Need-and-ors-requires (
-  child-reads.Asked,
-  child-reads.Learnt,
-  weights-reads.Asked,
-  weights-reads.Learnt,
-  empty-reads.Asked,
-  empty-reads.Learnt,
-  and-ors-below t,
-  and-ors.Post,
-  or-asks-reads.Asked,
-  or-asks-reads.Learnt,
-  or-pairings-reads.Asked,
-  or-pairings-reads.Learnt,
-  stage-below t,
-  stage.Post,
-) (or-body-at t) or-body.Post
-or-body-and-ors-requires t c κs = (goes-down (c .before .before .before .before .before .before .before .args .pol .now) (c .before .before .before .before .before .before .before .args .r) (c .before .before .before .before .before .before .before .args .dissat) 13 14 (omega arith) (c .before .before .before .before .before .before .before .pre .0), ((empty-doing (c .empty .ensures) (c .before .before .before .before .before .before .before .pre .1 .0)), (or-under (c .before .before .before .before .before .before .before .pre .1 .0 .classed .good) (c .before .before .before .before .before .before .before .pre .1 .0 .named) (c .before .before .before .before .before .before .before .pre .1 .0 .formed) (c .before .before .before .before .child .ensures) (c .before .before .before .child2 .ensures) (c .before .before .before .before .before .before .before .pre .1 .1 .isOr))))
+or-body-and-ors-requires : (t : ℕ) → or-body-lts.Need-and-ors-requires (or-body-calls t) (or-body-at t) or-body.Post
+or-body-and-ors-requires t c κs =
+    let child2 = c .before .before .before .child2 in
+    let child = c .before .before .before .before .child in
+    let start = c .before .before .before .before .before .before .before in
+    let args = start .args in
+    let pre = start .pre in (
+      below (omega arith) (pre .0),
+      (
+        empty-doing (c .empty .ensures) (pre .1 .0),
+        two-under (pre .1 .0 .classed .good) (pre .1 .0 .named) (pre .1 .0 .formed) (child .ensures) (child2 .ensures)
+            (two-or (policyAt (args .pol .now) (args .r)) (pre .1 .1 .isOr)),
+      ),
+    )
 
-or-body-and-ors-requires-2 : (t : ℕ) → or-body-lts.Need-and-ors-requires-2 (
-  child-reads.Asked,
-  child-reads.Learnt,
-  weights-reads.Asked,
-  weights-reads.Learnt,
-  empty-reads.Asked,
-  empty-reads.Learnt,
-  and-ors-below t,
-  and-ors.Post,
-  or-asks-reads.Asked,
-  or-asks-reads.Learnt,
-  or-pairings-reads.Asked,
-  or-pairings-reads.Learnt,
-  stage-below t,
-  stage.Post,
-) (or-body-at t) or-body.Post
-or-body-and-ors-requires-2 t c κs = (goes-down (c .before .before .before .before .before .before .before .before .before .before .before .args .pol .now) (c .before .before .before .before .before .before .before .before .before .before .before .args .r) (c .before .before .before .before .before .before .before .before .before .before .before .args .dissat) 13 14 (omega arith) (c .before .before .before .before .before .before .before .before .before .before .before .pre .0), ((doing-next (empty-doing (c .before .before .before .before .empty .ensures) (c .before .before .before .before .before .before .before .before .before .before .before .pre .1 .0)) _ (c .before .before .before .and-ors .ensures)), back (or-under (c .before .before .before .before .before .before .before .before .before .before .before .pre .1 .0 .classed .good) (c .before .before .before .before .before .before .before .before .before .before .before .pre .1 .0 .named) (c .before .before .before .before .before .before .before .before .before .before .before .pre .1 .0 .formed) (c .before .before .before .before .before .before .before .before .child .ensures) (c .before .before .before .before .before .before .before .child2 .ensures) (c .before .before .before .before .before .before .before .before .before .before .before .pre .1 .1 .isOr))))
+or-body-and-ors-requires-2 : (t : ℕ) → or-body-lts.Need-and-ors-requires-2 (or-body-calls t) (or-body-at t) or-body.Post
+or-body-and-ors-requires-2 t c κs =
+    let and-ors = c .before .before .before .and-ors in
+    let empty = c .before .before .before .before .empty in
+    let at-child2 = c .before .before .before .before .before .before .before in
+    let child2 = at-child2 .child2 in
+    let child = at-child2 .before .child in
+    let start = at-child2 .before .before .before .before in
+    let args = start .args in
+    let pre = start .pre in (
+      below (omega arith) (pre .0),
+      (
+        doing-next (empty-doing (empty .ensures) (pre .1 .0)) _ (and-ors .ensures),
+        back
+            (two-under (pre .1 .0 .classed .good) (pre .1 .0 .named) (pre .1 .0 .formed) (child .ensures) (child2 .ensures)
+            (two-or (policyAt (args .pol .now) (args .r)) (pre .1 .1 .isOr))),
+      ),
+    )
 
-or-body-or-asks-requires : (t : ℕ) → or-body-lts.Need-or-asks-requires (
-  child-reads.Asked,
-  child-reads.Learnt,
-  weights-reads.Asked,
-  weights-reads.Learnt,
-  empty-reads.Asked,
-  empty-reads.Learnt,
-  and-ors-below t,
-  and-ors.Post,
-  or-asks-reads.Asked,
-  or-asks-reads.Learnt,
-  or-pairings-reads.Asked,
-  or-pairings-reads.Learnt,
-  stage-below t,
-  stage.Post,
-) (or-body-at t) or-body.Post
+or-body-or-asks-requires : (t : ℕ) → or-body-lts.Need-or-asks-requires (or-body-calls t) (or-body-at t) or-body.Post
 or-body-or-asks-requires t c κs = tt
 
-or-body-or-pairings-requires : (t : ℕ) → or-body-lts.Need-or-pairings-requires (
-  child-reads.Asked,
-  child-reads.Learnt,
-  weights-reads.Asked,
-  weights-reads.Learnt,
-  empty-reads.Asked,
-  empty-reads.Learnt,
-  and-ors-below t,
-  and-ors.Post,
-  or-asks-reads.Asked,
-  or-asks-reads.Learnt,
-  or-pairings-reads.Asked,
-  or-pairings-reads.Learnt,
-  stage-below t,
-  stage.Post,
-) (or-body-at t) or-body.Post
+or-body-or-pairings-requires : (t : ℕ) → or-body-lts.Need-or-pairings-requires (or-body-calls t) (or-body-at t) or-body.Post
 or-body-or-pairings-requires t c κs = tt
 
-or-body-stage-requires : (t : ℕ) → or-body-lts.Need-stage-requires (
-  child-reads.Asked,
-  child-reads.Learnt,
-  weights-reads.Asked,
-  weights-reads.Learnt,
-  empty-reads.Asked,
-  empty-reads.Learnt,
-  and-ors-below t,
-  and-ors.Post,
-  or-asks-reads.Asked,
-  or-asks-reads.Learnt,
-  or-pairings-reads.Asked,
-  or-pairings-reads.Learnt,
-  stage-below t,
-  stage.Post,
-) (or-body-at t) or-body.Post
-or-body-stage-requires t c κs = (goes-down (c .before .before .before .before .before .before .before .before .before .before .before .before .before .before .before .before .before .args .pol .now) (c .before .before .before .before .before .before .before .before .before .before .before .before .before .before .before .before .before .args .r) (c .before .before .before .before .before .before .before .before .before .before .before .before .before .before .before .before .before .args .dissat) 12 14 (omega arith) (c .before .before .before .before .before .before .before .before .before .before .before .before .before .before .before .before .before .pre .0), ((doing-next (doing-next (empty-doing (c .before .before .before .before .before .before .before .before .before .before .empty .ensures) (c .before .before .before .before .before .before .before .before .before .before .before .before .before .before .before .before .before .pre .1 .0)) _ (c .before .before .before .before .before .before .before .before .before .and-ors .ensures)) _ (c .before .before .before .before .before .and-ors2 .ensures)), (omega arith, (or-asks-lighter (c .before .before .before .before .before .before .before .before .before .before .before .before .before .before .before .before .before .args .sat) (c .before .before .before .before .before .before .before .before .before .before .before .before .before .before .before .before .before .args .dissat) (c .before .before .before .before .before .before .before .before .before .before .before .before .before .before .child .result) (c .before .before .before .before .before .before .before .before .before .before .before .before .before .child2 .result) (c .before .before .before .before .before .before .before .before .before .before .before .before .weights .result .lw) (c .before .before .before .before .before .before .before .before .before .before .before .before .weights .result .rw) (c .before .before .or-asks .ensures) (or-under (c .before .before .before .before .before .before .before .before .before .before .before .before .before .before .before .before .before .pre .1 .0 .classed .good) (c .before .before .before .before .before .before .before .before .before .before .before .before .before .before .before .before .before .pre .1 .0 .named) (c .before .before .before .before .before .before .before .before .before .before .before .before .before .before .before .before .before .pre .1 .0 .formed) (c .before .before .before .before .before .before .before .before .before .before .before .before .before .before .child .ensures) (c .before .before .before .before .before .before .before .before .before .before .before .before .before .child2 .ensures) (c .before .before .before .before .before .before .before .before .before .before .before .before .before .before .before .before .before .pre .1 .1 .isOr)), (omega arith, or-pairings-placed (c .before .before .before .before .before .before .before .before .before .before .before .before .weights .result .lw) (c .before .before .before .before .before .before .before .before .before .before .before .before .weights .result .rw) (c .before .or-pairings .ensures))))))
+or-body-stage-requires : (t : ℕ) → or-body-lts.Need-stage-requires (or-body-calls t) (or-body-at t) or-body.Post
+or-body-stage-requires t c κs =
+    let or-pairings = c .before .or-pairings in
+    let or-asks = c .before .before .or-asks in
+    let and-ors2 = c .before .before .before .before .before .and-ors2 in
+    let at-and-ors = c .before .before .before .before .before .before .before .before .before in
+    let and-ors = at-and-ors .and-ors in
+    let empty = at-and-ors .before .empty in
+    let weights = at-and-ors .before .before .before .weights in
+    let child2 = at-and-ors .before .before .before .before .child2 in
+    let child = at-and-ors .before .before .before .before .before .child in
+    let start = at-and-ors .before .before .before .before .before .before .before .before in
+    let args = start .args in
+    let pre = start .pre in (
+      below (omega arith) (pre .0),
+      (
+        doing-next (doing-next (empty-doing (empty .ensures) (pre .1 .0)) _ (and-ors .ensures)) _ (and-ors2 .ensures),
+        (
+          omega arith,
+          (
+            or-asks-lighter (args .sat) (args .dissat) (child .result) (child2 .result) (weights .result .lw)
+                (weights .result .rw) (or-asks .ensures)
+                (two-under (pre .1 .0 .classed .good) (pre .1 .0 .named) (pre .1 .0 .formed) (child .ensures) (child2 .ensures)
+                (two-or (policyAt (args .pol .now) (args .r)) (pre .1 .1 .isOr))),
+            (omega arith, or-pairings-placed (weights .result .lw) (weights .result .rw) (or-pairings .ensures)),
+          ),
+        ),
+      ),
+    )
 
-or-body-same-length : (t : ℕ) → or-body-lts.Need-same-length (
-  child-reads.Asked,
-  child-reads.Learnt,
-  weights-reads.Asked,
-  weights-reads.Learnt,
-  empty-reads.Asked,
-  empty-reads.Learnt,
-  and-ors-below t,
-  and-ors.Post,
-  or-asks-reads.Asked,
-  or-asks-reads.Learnt,
-  or-pairings-reads.Asked,
-  or-pairings-reads.Learnt,
-  stage-below t,
-  stage.Post,
-) (or-body-at t) or-body.Post
-or-body-same-length t c = ready-long (c .before .before .before .before .before .before .before .before .before .before .before .before .before .before .before .before .before .before .before .before .pre .1 .0 .ready) (c .before .before .stage .ensures .ready)
+or-body-same-length : (t : ℕ) → or-body-lts.Need-same-length (or-body-calls t) (or-body-at t) or-body.Post
+or-body-same-length t c =
+    let stage = c .before .before .stage in
+    let earlier = c .before .before .before .before .before .before .before .before .before .before .before .before in
+    let pre = earlier .before .before .before .before .before .before .before .before .pre in
+    ready-long (pre .1 .0 .ready) (stage .ensures .ready)
 
-or-body-returns : (t : ℕ) → or-body-lts.Need-returns (
-  child-reads.Asked,
-  child-reads.Learnt,
-  weights-reads.Asked,
-  weights-reads.Learnt,
-  empty-reads.Asked,
-  empty-reads.Learnt,
-  and-ors-below t,
-  and-ors.Post,
-  or-asks-reads.Asked,
-  or-asks-reads.Learnt,
-  or-pairings-reads.Asked,
-  or-pairings-reads.Learnt,
-  stage-below t,
-  stage.Post,
-) (or-body-at t) or-body.Post
-or-body-returns t c = body-or (c .before .before .before .before .before .before .before .before .before .before .before .before .before .before .before .before .before .before .before .before .args .context) (c .before .before .before .before .before .before .before .before .before .before .before .before .before .before .before .before .before .before .before .before .pre .1 .0 .classed .good) (c .before .before .before .before .before .before .before .before .before .before .before .before .before .before .before .before .before .before .before .before .pre .1 .0 .named) (c .before .before .before .before .before .before .before .before .before .before .before .before .before .before .before .before .before .before .before .before .args .sat) (c .before .before .before .before .before .before .before .before .before .before .before .before .before .before .before .before .before .before .before .before .args .dissat) (c .before .before .before .before .before .before .before .before .before .before .before .before .before .before .before .before .before .before .before .before .pre .1 .1) (c .before .before .before .before .before .before .before .before .before .before .before .before .before .before .before .before .before .child .ensures) (c .before .before .before .before .before .before .before .before .before .before .before .before .before .before .before .before .child2 .ensures) (weights-left (c .before .before .before .before .before .before .before .before .before .before .before .before .before .before .before .before .before .before .before .before .args .left-weight) (c .before .before .before .before .before .before .before .before .before .before .before .before .before .before .before .before .before .before .before .before .args .right-weight) (c .before .before .before .before .before .before .before .before .before .before .before .before .before .before .before .weights .ensures)) (weights-right (c .before .before .before .before .before .before .before .before .before .before .before .before .before .before .before .before .before .before .before .before .args .left-weight) (c .before .before .before .before .before .before .before .before .before .before .before .before .before .before .before .before .before .before .before .before .args .right-weight) (c .before .before .before .before .before .before .before .before .before .before .before .before .before .before .before .weights .ensures)) (all-or-asks (c .before .before .before .before .before .before .before .before .before .before .before .before .before .before .before .before .before .child .result) (c .before .before .before .before .before .before .before .before .before .before .before .before .before .before .before .before .child2 .result) (c .before .before .before .before .before .before .before .before .before .before .before .before .before .before .before .before .before .before .before .before .args .sat) (c .before .before .before .before .before .before .before .before .before .before .before .before .before .before .before .before .before .before .before .before .args .dissat) (c .before .before .before .before .before .before .before .before .before .before .before .before .before .before .before .weights .result .lw) (c .before .before .before .before .before .before .before .before .before .before .before .before .before .before .before .weights .result .rw) (c .before .before .before .before .before .or-asks .ensures)) (all-or-pairings (c .before .before .before .before .before .before .before .before .before .before .before .before .before .before .before .weights .result .lw) (c .before .before .before .before .before .before .before .before .before .before .before .before .before .before .before .weights .result .rw) (c .before .before .before .before .or-pairings .ensures)) (c .before .before .before .before .before .before .before .before .before .before .before .before .before .empty .ensures) (c .before .before .before .before .before .before .before .before .before .before .before .before .and-ors .ensures) (c .before .before .before .before .before .before .before .before .and-ors2 .ensures) (c .before .before .stage .ensures)
+or-body-returns : (t : ℕ) → or-body-lts.Need-returns (or-body-calls t) (or-body-at t) or-body.Post
+or-body-returns t c =
+    let stage = c .before .before .stage in
+    let or-pairings = c .before .before .before .before .or-pairings in
+    let or-asks = c .before .before .before .before .before .or-asks in
+    let at-and-ors2 = c .before .before .before .before .before .before .before .before in
+    let and-ors2 = at-and-ors2 .and-ors2 in
+    let and-ors = at-and-ors2 .before .before .before .before .and-ors in
+    let empty = at-and-ors2 .before .before .before .before .before .empty in
+    let at-weights = at-and-ors2 .before .before .before .before .before .before .before in
+    let weights = at-weights .weights in
+    let child2 = at-weights .before .child2 in
+    let child = at-weights .before .before .child in
+    let start = at-weights .before .before .before .before .before in
+    let args = start .args in
+    let pre = start .pre in
+    body-or (args .context) (pre .1 .0 .classed .good) (pre .1 .0 .named) (args .sat) (args .dissat) (pre .1 .1)
+    (child .ensures) (child2 .ensures) (weights-left (args .left-weight) (args .right-weight) (weights .ensures))
+    (weights-right (args .left-weight) (args .right-weight) (weights .ensures))
+    (all-or-asks (child .result) (child2 .result) (args .sat) (args .dissat) (weights .result .lw) (weights .result .rw)
+    (or-asks .ensures)) (all-or-pairings (weights .result .lw) (weights .result .rw) (or-pairings .ensures)) (empty .ensures)
+    (and-ors .ensures) (and-ors2 .ensures) (stage .ensures)
+
+-- ---- pair
 
 abbrev pair-Inv-loop : pair-lts.InvT-loop
 pair-Inv-loop context pol work₀ r sat dissat a slots many done₀ i₀ work done i =
-    PairOn context (probs sat dissat) (againIn context (policyAt pol r) (probs sat dissat)) pol r dissat a slots done₀ work₀ i done work × (i ≤ many)
+    PairOn context (probs sat dissat) (againIn context (policyAt pol r) (probs sat dissat)) pol r dissat a slots done₀ work₀ i done work
+    × (i ≤ many)
 
 abbrev pair-μ-loop : pair-lts.MeasureT-loop
 pair-μ-loop context pol work₀ r sat dissat a slots many done₀ i₀ work done i = many - i
 
-pair-count-requires : (t : ℕ) → pair-lts.Need-count-requires (
+abbrev pair-calls : ℕ → pair-lts.Claims
+pair-calls t = (
   count-reads.Asked,
   count-reads.Learnt,
   made-reads.Asked,
   made-reads.Learnt,
   wrapped-if-made-below t,
   wrapped-if-made.Post,
-) (pair-at t) pair.Post pair-Inv-loop pair-μ-loop
+)
+
+pair-count-requires : (t : ℕ) → pair-lts.Need-count-requires (pair-calls t) (pair-at t) pair.Post pair-Inv-loop pair-μ-loop
 pair-count-requires t c κs = c .before .before .before .pre .1 .1
 
-pair-loop-holds : (t : ℕ) → pair-lts.Need-loop-holds (
-  count-reads.Asked,
-  count-reads.Learnt,
-  made-reads.Asked,
-  made-reads.Learnt,
-  wrapped-if-made-below t,
-  wrapped-if-made.Post,
-) (pair-at t) pair.Post pair-Inv-loop pair-μ-loop
-pair-loop-holds t c = (pair-begins (c .before .before .before .before .args .context) (probs (c .before .before .before .before .args .sat) (c .before .before .before .before .args .dissat)) (againIn (c .before .before .before .before .args .context) (policyAt (c .before .before .before .before .args .pol .now) (c .before .before .before .before .args .r)) (probs (c .before .before .before .before .args .sat) (c .before .before .before .before .args .dissat))) (c .before .before .before .before .pre .1 .1) (c .before .before .before .before .pre .1 .0), omega arith)
+pair-loop-holds : (t : ℕ) → pair-lts.Need-loop-holds (pair-calls t) (pair-at t) pair.Post pair-Inv-loop pair-μ-loop
+pair-loop-holds t c =
+    let start = c .before .before .before .before in
+    let args = start .args in
+    let pre = start .pre in
+    let p = probs (args .sat) (args .dissat) in
+    let q = policyAt (args .pol .now) (args .r) in
+    let again = againIn (args .context) q p in
+    (pair-begins (args .context) p again (pre .1 .1) (pre .1 .0), omega arith)
 
-pair-made-requires : (t : ℕ) → pair-lts.Need-made-requires (
-  count-reads.Asked,
-  count-reads.Learnt,
-  made-reads.Asked,
-  made-reads.Learnt,
-  wrapped-if-made-below t,
-  wrapped-if-made.Post,
-) (pair-at t) pair.Post pair-Inv-loop pair-μ-loop
-pair-made-requires t c κs = pair-makes (c .before .before .before .before .before .before .before .args .context) (probs (c .before .before .before .before .before .before .before .args .sat) (c .before .before .before .before .before .before .before .args .dissat)) (againIn (c .before .before .before .before .before .before .before .args .context) (policyAt (c .before .before .before .before .before .before .before .args .pol .now) (c .before .before .before .before .before .before .before .args .r)) (probs (c .before .before .before .before .before .before .before .args .sat) (c .before .before .before .before .before .before .before .args .dissat))) (c .before .before .before .before .before .before .before .pre .1 .1) (c .before .before .before .count .ensures) (c .before .before .loop .i) (c .before .before .loop .inv .0) (c .before .loop-test .taken)
+pair-made-requires : (t : ℕ) → pair-lts.Need-made-requires (pair-calls t) (pair-at t) pair.Post pair-Inv-loop pair-μ-loop
+pair-made-requires t c κs =
+    let loop-test = c .before .loop-test in
+    let loop = c .before .before .loop in
+    let count = c .before .before .before .count in
+    let start = c .before .before .before .before .before .before .before in
+    let args = start .args in
+    let pre = start .pre in
+    let p = probs (args .sat) (args .dissat) in
+    let q = policyAt (args .pol .now) (args .r) in
+    let again = againIn (args .context) q p in
+    pair-makes (args .context) p again (pre .1 .1) (count .ensures) (loop .i) (loop .inv .0) (loop-test .taken)
 
-pair-wrapped-if-made-requires : (t : ℕ) → pair-lts.Need-wrapped-if-made-requires (
-  count-reads.Asked,
-  count-reads.Learnt,
-  made-reads.Asked,
-  made-reads.Learnt,
-  wrapped-if-made-below t,
-  wrapped-if-made.Post,
-) (pair-at t) pair.Post pair-Inv-loop pair-μ-loop
-pair-wrapped-if-made-requires t c κs = (below (rank-falls (c .before .before .before .before .before .before .before .before .before .args .pol .now) (c .before .before .before .before .before .before .before .before .before .args .r) (c .before .before .before .before .before .before .before .before .before .args .dissat) 9 10 (omega arith)) (c .before .before .before .before .before .before .before .before .before .pre .0), (c .before .before .before .before .loop .inv .0 .doing, pair-offers (c .before .before .before .before .before .before .before .before .before .args .context) (probs (c .before .before .before .before .before .before .before .before .before .args .sat) (c .before .before .before .before .before .before .before .before .before .args .dissat)) (againIn (c .before .before .before .before .before .before .before .before .before .args .context) (policyAt (c .before .before .before .before .before .before .before .before .before .args .pol .now) (c .before .before .before .before .before .before .before .before .before .args .r)) (probs (c .before .before .before .before .before .before .before .before .before .args .sat) (c .before .before .before .before .before .before .before .before .before .args .dissat))) (c .before .before .before .before .before .before .before .before .before .pre .1 .1) (c .before .before .before .before .before .count .ensures) (c .before .before .before .before .loop .i) (c .before .before .before .before .loop .inv .0) (c .before .made .ensures)))
+pair-wrapped-if-made-requires : (t : ℕ) →
+    pair-lts.Need-wrapped-if-made-requires (pair-calls t) (pair-at t) pair.Post pair-Inv-loop pair-μ-loop
+pair-wrapped-if-made-requires t c κs =
+    let made = c .before .made in
+    let loop = c .before .before .before .before .loop in
+    let count = c .before .before .before .before .before .count in
+    let start = c .before .before .before .before .before .before .before .before .before in
+    let args = start .args in
+    let pre = start .pre in
+    let p = probs (args .sat) (args .dissat) in
+    let q = policyAt (args .pol .now) (args .r) in
+    let again = againIn (args .context) q p in (
+      below (omega arith) (pre .0),
+      (
+        loop .inv .0 .doing,
+        pair-offers (args .context) p again (pre .1 .1) (count .ensures) (loop .i) (loop .inv .0) (made .ensures),
+      ),
+    )
 
-pair-add-i : (t : ℕ) → pair-lts.Need-add-i (
-  count-reads.Asked,
-  count-reads.Learnt,
-  made-reads.Asked,
-  made-reads.Learnt,
-  wrapped-if-made-below t,
-  wrapped-if-made.Post,
-) (pair-at t) pair.Post pair-Inv-loop pair-μ-loop
+pair-add-i : (t : ℕ) → pair-lts.Need-add-i (pair-calls t) (pair-at t) pair.Post pair-Inv-loop pair-μ-loop
 pair-add-i t c = search needs
 
-pair-loop-less : (t : ℕ) → pair-lts.Need-loop-less (
-  count-reads.Asked,
-  count-reads.Learnt,
-  made-reads.Asked,
-  made-reads.Learnt,
-  wrapped-if-made-below t,
-  wrapped-if-made.Post,
-) (pair-at t) pair.Post pair-Inv-loop pair-μ-loop
-pair-loop-less t c = omega (arith, c .before .before .before .before .before .before .loop-test .taken)
+pair-loop-less : (t : ℕ) → pair-lts.Need-loop-less (pair-calls t) (pair-at t) pair.Post pair-Inv-loop pair-μ-loop
+pair-loop-less t c =
+    let loop-test = c .before .before .before .before .before .before .loop-test in
+    omega (arith, loop-test .taken)
 
-pair-loop-again : (t : ℕ) → pair-lts.Need-loop-again (
-  count-reads.Asked,
-  count-reads.Learnt,
-  made-reads.Asked,
-  made-reads.Learnt,
-  wrapped-if-made-below t,
-  wrapped-if-made.Post,
-) (pair-at t) pair.Post pair-Inv-loop pair-μ-loop
-pair-loop-again t c = (pair-goes-on (c .before .before .before .before .before .before .before .before .before .before .before .before .args .context) (probs (c .before .before .before .before .before .before .before .before .before .before .before .before .args .sat) (c .before .before .before .before .before .before .before .before .before .before .before .before .args .dissat)) (againIn (c .before .before .before .before .before .before .before .before .before .before .before .before .args .context) (policyAt (c .before .before .before .before .before .before .before .before .before .before .before .before .args .pol .now) (c .before .before .before .before .before .before .before .before .before .before .before .before .args .r)) (probs (c .before .before .before .before .before .before .before .before .before .before .before .before .args .sat) (c .before .before .before .before .before .before .before .before .before .before .before .before .args .dissat))) (c .before .before .before .before .before .before .before .before .before .before .before .before .pre .1 .1) (c .before .before .before .before .before .before .before .before .count .ensures) (c .before .before .before .before .before .before .before .loop .i) (c .before .before .before .before .before .before .before .loop .inv .0) (c .before .before .before .before .before .before .loop-test .taken) (c .before .before .before .before .made .ensures) (c .before .before .wrapped-if-made .ensures), omega (arith, c .before .before .before .before .before .before .loop-test .taken))
+pair-loop-again : (t : ℕ) → pair-lts.Need-loop-again (pair-calls t) (pair-at t) pair.Post pair-Inv-loop pair-μ-loop
+pair-loop-again t c =
+    let wrapped-if-made = c .before .before .wrapped-if-made in
+    let made = c .before .before .before .before .made in
+    let at-loop-test = c .before .before .before .before .before .before in
+    let loop-test = at-loop-test .loop-test in
+    let loop = at-loop-test .before .loop in
+    let count = at-loop-test .before .before .count in
+    let start = at-loop-test .before .before .before .before .before .before in
+    let args = start .args in
+    let pre = start .pre in
+    let p = probs (args .sat) (args .dissat) in
+    let q = policyAt (args .pol .now) (args .r) in
+    let again = againIn (args .context) q p in (
+      pair-goes-on (args .context) p again (pre .1 .1) (count .ensures) (loop .i) (loop .inv .0) (loop-test .taken)
+          (made .ensures) (wrapped-if-made .ensures),
+      omega (arith, loop-test .taken),
+    )
 
-pair-same-length : (t : ℕ) → pair-lts.Need-same-length (
-  count-reads.Asked,
-  count-reads.Learnt,
-  made-reads.Asked,
-  made-reads.Learnt,
-  wrapped-if-made-below t,
-  wrapped-if-made.Post,
-) (pair-at t) pair.Post pair-Inv-loop pair-μ-loop
-pair-same-length t c = ready-long (c .before .before .before .before .before .before .pre .1 .0 .ready) (c .before .loop .inv .0 .doing .ready)
+pair-same-length : (t : ℕ) → pair-lts.Need-same-length (pair-calls t) (pair-at t) pair.Post pair-Inv-loop pair-μ-loop
+pair-same-length t c =
+    let loop = c .before .loop in
+    let pre = c .before .before .before .before .before .before .pre in
+    ready-long (pre .1 .0 .ready) (loop .inv .0 .doing .ready)
 
-pair-returns : (t : ℕ) → pair-lts.Need-returns (
-  count-reads.Asked,
-  count-reads.Learnt,
-  made-reads.Asked,
-  made-reads.Learnt,
-  wrapped-if-made-below t,
-  wrapped-if-made.Post,
-) (pair-at t) pair.Post pair-Inv-loop pair-μ-loop
+pair-returns : (t : ℕ) → pair-lts.Need-returns (pair-calls t) (pair-at t) pair.Post pair-Inv-loop pair-μ-loop
 pair-returns t c =
     let eight : length (c .before .before .before .before .before .before .args .slots) ≡ 8 = search needs in
-    pair-ends (c .before .before .before .before .before .before .args .context) (probs (c .before .before .before .before .before .before .args .sat) (c .before .before .before .before .before .before .args .dissat)) (againIn (c .before .before .before .before .before .before .args .context) (policyAt (c .before .before .before .before .before .before .args .pol .now) (c .before .before .before .before .before .before .args .r)) (probs (c .before .before .before .before .before .before .args .sat) (c .before .before .before .before .before .before .args .dissat))) (c .before .before .before .before .before .before .pre .1 .1) (c .before .before .count .ensures) (c .before .loop .i) (c .before .loop .inv .0) eight (c .loop-test .left) (c .before .loop .inv .1)
+    let loop = c .before .loop in
+    let count = c .before .before .count in
+    let start = c .before .before .before .before .before .before in
+    let args = start .args in
+    let pre = start .pre in
+    let p = probs (args .sat) (args .dissat) in
+    let q = policyAt (args .pol .now) (args .r) in
+    let again = againIn (args .context) q p in
+    pair-ends (args .context) p again (pre .1 .1) (count .ensures) (loop .i) (loop .inv .0) eight (c .loop-test .left)
+    (loop .inv .1)
+
+-- ---- pair_all
 
 abbrev pair-all-Inv-loop : pair-all-lts.InvT-loop
 pair-all-Inv-loop context pol work₀ r sat dissat k slots pairings done₀ i₀ work done i =
-    PairAllOn context (probs sat dissat) (againIn context (policyAt pol r) (probs sat dissat)) pol r dissat (take k pairings) slots done₀ work₀ i done work
+    PairAllOn context (probs sat dissat) (againIn context (policyAt pol r) (probs sat dissat)) pol r dissat
+    (take k pairings) slots done₀ work₀ i done work
     × ((i ≤ k) × ((length pairings ≡ 10) × (length slots ≡ 8)))
 
 abbrev pair-all-μ-loop : pair-all-lts.MeasureT-loop
 pair-all-μ-loop context pol work₀ r sat dissat k slots pairings done₀ i₀ work done i = k - i
 
-pair-all-loop-holds :
-    (t : ℕ) →
-    pair-all-lts.Need-loop-holds
-    (pair-below t, pair.Post)
-    (pair-all-at t)
-    pair-all.Post
-    pair-all-Inv-loop
-    pair-all-μ-loop
+abbrev pair-all-calls : ℕ → pair-all-lts.Claims
+pair-all-calls t = (pair-below t, pair.Post)
+
+pair-all-loop-holds : (t : ℕ) →
+    pair-all-lts.Need-loop-holds (pair-all-calls t) (pair-all-at t) pair-all.Post pair-all-Inv-loop pair-all-μ-loop
 pair-all-loop-holds t c =
     let long : length (c .before .before .args .t7) ≡ 10 = search needs in
     let eight : length (c .before .before .args .slots) ≡ 8 = search needs in
-    (pair-all-begins (c .before .before .args .context) (probs (c .before .before .args .sat) (c .before .before .args .dissat)) (againIn (c .before .before .args .context) (policyAt (c .before .before .args .pol .now) (c .before .before .args .r)) (probs (c .before .before .args .sat) (c .before .before .args .dissat))) (c .before .before .args .t7) (c .before .before .args .k) (c .before .before .args .slots) (c .before .before .pre .1 .1 .1) (c .before .before .pre .1 .0), (omega arith, (long, eight)))
+    let start = c .before .before in
+    let args = start .args in
+    let pre = start .pre in
+    let p = probs (args .sat) (args .dissat) in
+    let q = policyAt (args .pol .now) (args .r) in
+    let again = againIn (args .context) q p in (
+      pair-all-begins (args .context) p again (args .t7) (args .k) (args .slots) (pre .1 .1 .1) (pre .1 .0),
+      (omega arith, (long, eight)),
+    )
 
-pair-all-mul-a :
-    (t : ℕ) →
-    pair-all-lts.Need-mul-a
-    (pair-below t, pair.Post)
-    (pair-all-at t)
-    pair-all.Post
-    pair-all-Inv-loop
-    pair-all-μ-loop
+pair-all-mul-a : (t : ℕ) →
+    pair-all-lts.Need-mul-a (pair-all-calls t) (pair-all-at t) pair-all.Post pair-all-Inv-loop pair-all-μ-loop
 pair-all-mul-a t c = search needs
 
-pair-all-array-copy-out-a :
-    (t : ℕ) →
-    pair-all-lts.Need-array-copy-out-a
-    (pair-below t, pair.Post)
-    (pair-all-at t)
-    pair-all.Post
-    pair-all-Inv-loop
-    pair-all-μ-loop
-pair-all-array-copy-out-a t c = omega (arith, c .loop-test .taken, c .before .before .before .before .pre .1 .1 .0)
+pair-all-array-copy-out-a : (t : ℕ) →
+    pair-all-lts.Need-array-copy-out-a (pair-all-calls t) (pair-all-at t) pair-all.Post pair-all-Inv-loop pair-all-μ-loop
+pair-all-array-copy-out-a t c =
+    let pre = c .before .before .before .before .pre in
+    omega (arith, c .loop-test .taken, pre .1 .1 .0)
 
-pair-all-pair-requires :
-    (t : ℕ) →
-    pair-all-lts.Need-pair-requires
-    (pair-below t, pair.Post)
-    (pair-all-at t)
-    pair-all.Post
-    pair-all-Inv-loop
-    pair-all-μ-loop
-pair-all-pair-requires t c κs = (below (rank-falls (c .before .before .before .before .before .before .args .pol .now) (c .before .before .before .before .before .before .args .r) (c .before .before .before .before .before .before .args .dissat) 10 11 (omega arith)) (c .before .before .before .before .before .before .pre .0), (c .before .before .before .loop .inv .0 .doing, pair-all-pairs (c .before .before .before .before .before .before .args .context) (probs (c .before .before .before .before .before .before .args .sat) (c .before .before .before .before .before .before .args .dissat)) (againIn (c .before .before .before .before .before .before .args .context) (policyAt (c .before .before .before .before .before .before .args .pol .now) (c .before .before .before .before .before .before .args .r)) (probs (c .before .before .before .before .before .before .args .sat) (c .before .before .before .before .before .before .args .dissat))) (c .before .before .before .before .before .before .args .t7) (c .before .before .before .before .before .before .args .k) (c .before .before .before .before .before .before .args .slots) (c .before .before .before .before .before .before .pre .1 .1 .1) (omega (arith, c .before .before .before .loop .inv .1 .1 .0, c .before .before .before .before .before .before .pre .1 .1 .0)) (c .before .before .before .loop .i) (c .before .before .before .loop .inv .0) (c .before .before .loop-test .taken) noPairing refl))
+pair-all-pair-requires : (t : ℕ) →
+    pair-all-lts.Need-pair-requires (pair-all-calls t) (pair-all-at t) pair-all.Post pair-all-Inv-loop pair-all-μ-loop
+pair-all-pair-requires t c κs =
+    let loop-test = c .before .before .loop-test in
+    let loop = c .before .before .before .loop in
+    let start = c .before .before .before .before .before .before in
+    let args = start .args in
+    let pre = start .pre in
+    let p = probs (args .sat) (args .dissat) in
+    let q = policyAt (args .pol .now) (args .r) in
+    let again = againIn (args .context) q p in (
+      below (omega arith) (pre .0),
+      (
+        loop .inv .0 .doing,
+        pair-all-pairs (args .context) p again (args .t7) (args .k) (args .slots) (pre .1 .1 .1)
+            (omega (arith, loop .inv .1 .1 .0, pre .1 .1 .0)) (loop .i) (loop .inv .0) (loop-test .taken) noPairing refl,
+      ),
+    )
 
-pair-all-add-i :
-    (t : ℕ) →
-    pair-all-lts.Need-add-i
-    (pair-below t, pair.Post)
-    (pair-all-at t)
-    pair-all.Post
-    pair-all-Inv-loop
-    pair-all-μ-loop
-pair-all-add-i t c = omega (arith, c .before .before .before .before .before .loop-test .taken, c .before .before .before .before .before .before .before .before .before .pre .1 .1 .0)
+pair-all-add-i : (t : ℕ) →
+    pair-all-lts.Need-add-i (pair-all-calls t) (pair-all-at t) pair-all.Post pair-all-Inv-loop pair-all-μ-loop
+pair-all-add-i t c =
+    let loop-test = c .before .before .before .before .before .loop-test in
+    let pre = c .before .before .before .before .before .before .before .before .before .pre in
+    omega (arith, loop-test .taken, pre .1 .1 .0)
 
-pair-all-loop-less :
-    (t : ℕ) →
-    pair-all-lts.Need-loop-less
-    (pair-below t, pair.Post)
-    (pair-all-at t)
-    pair-all.Post
-    pair-all-Inv-loop
-    pair-all-μ-loop
+pair-all-loop-less : (t : ℕ) →
+    pair-all-lts.Need-loop-less (pair-all-calls t) (pair-all-at t) pair-all.Post pair-all-Inv-loop pair-all-μ-loop
 pair-all-loop-less t c = omega (arith, c .before .before .before .before .before .loop-test .taken)
 
-pair-all-loop-again :
-    (t : ℕ) →
-    pair-all-lts.Need-loop-again
-    (pair-below t, pair.Post)
-    (pair-all-at t)
-    pair-all.Post
-    pair-all-Inv-loop
-    pair-all-μ-loop
-pair-all-loop-again t c = (pair-all-goes-on (c .before .before .before .before .before .before .before .before .before .args .context) (probs (c .before .before .before .before .before .before .before .before .before .args .sat) (c .before .before .before .before .before .before .before .before .before .args .dissat)) (againIn (c .before .before .before .before .before .before .before .before .before .args .context) (policyAt (c .before .before .before .before .before .before .before .before .before .args .pol .now) (c .before .before .before .before .before .before .before .before .before .args .r)) (probs (c .before .before .before .before .before .before .before .before .before .args .sat) (c .before .before .before .before .before .before .before .before .before .args .dissat))) (c .before .before .before .before .before .before .before .before .before .args .t7) (c .before .before .before .before .before .before .before .before .before .args .k) (c .before .before .before .before .before .before .before .before .before .args .slots) (c .before .before .before .before .before .before .before .before .before .pre .1 .1 .1) (omega (arith, c .before .before .before .before .before .before .loop .inv .1 .1 .0, c .before .before .before .before .before .before .before .before .before .pre .1 .1 .0)) (c .before .before .before .before .before .before .loop .i) (c .before .before .before .before .before .before .loop .inv .0) (c .before .before .before .before .before .loop-test .taken) noPairing refl (c .before .before .before .before .before .before .loop .inv .1 .1 .1) (c .before .before .pair .ensures), (omega (arith, c .before .before .before .before .before .loop-test .taken), c .before .before .before .before .before .before .loop .inv .1 .1))
+pair-all-loop-again : (t : ℕ) →
+    pair-all-lts.Need-loop-again (pair-all-calls t) (pair-all-at t) pair-all.Post pair-all-Inv-loop pair-all-μ-loop
+pair-all-loop-again t c =
+    let pair = c .before .before .pair in
+    let loop-test = c .before .before .before .before .before .loop-test in
+    let at-loop = c .before .before .before .before .before .before in
+    let loop = at-loop .loop in
+    let start = at-loop .before .before .before in
+    let args = start .args in
+    let pre = start .pre in
+    let p = probs (args .sat) (args .dissat) in
+    let q = policyAt (args .pol .now) (args .r) in
+    let again = againIn (args .context) q p in (
+      pair-all-goes-on (args .context) p again (args .t7) (args .k) (args .slots) (pre .1 .1 .1)
+          (omega (arith, loop .inv .1 .1 .0, pre .1 .1 .0)) (loop .i) (loop .inv .0) (loop-test .taken) noPairing refl
+          (loop .inv .1 .1 .1) (pair .ensures),
+      (omega (arith, loop-test .taken), loop .inv .1 .1),
+    )
 
-pair-all-same-length :
-    (t : ℕ) →
-    pair-all-lts.Need-same-length
-    (pair-below t, pair.Post)
-    (pair-all-at t)
-    pair-all.Post
-    pair-all-Inv-loop
-    pair-all-μ-loop
-pair-all-same-length t c = ready-long (c .before .before .before .before .pre .1 .0 .ready) (c .before .loop .inv .0 .doing .ready)
+pair-all-same-length : (t : ℕ) →
+    pair-all-lts.Need-same-length (pair-all-calls t) (pair-all-at t) pair-all.Post pair-all-Inv-loop pair-all-μ-loop
+pair-all-same-length t c =
+    let loop = c .before .loop in
+    let pre = c .before .before .before .before .pre in
+    ready-long (pre .1 .0 .ready) (loop .inv .0 .doing .ready)
 
-pair-all-returns :
-    (t : ℕ) →
-    pair-all-lts.Need-returns
-    (pair-below t, pair.Post)
-    (pair-all-at t)
-    pair-all.Post
-    pair-all-Inv-loop
-    pair-all-μ-loop
-pair-all-returns t c = pair-all-ends (c .before .before .before .before .args .context) (probs (c .before .before .before .before .args .sat) (c .before .before .before .before .args .dissat)) (againIn (c .before .before .before .before .args .context) (policyAt (c .before .before .before .before .args .pol .now) (c .before .before .before .before .args .r)) (probs (c .before .before .before .before .args .sat) (c .before .before .before .before .args .dissat))) (c .before .before .before .before .args .t7) (c .before .before .before .before .args .k) (c .before .before .before .before .args .slots) (c .before .before .before .before .pre .1 .1 .1) (omega (arith, c .before .loop .inv .1 .1 .0, c .before .before .before .before .pre .1 .1 .0)) (c .before .loop .i) (c .before .loop .inv .0) (c .loop-test .left) (c .before .loop .inv .1 .0)
+pair-all-returns : (t : ℕ) →
+    pair-all-lts.Need-returns (pair-all-calls t) (pair-all-at t) pair-all.Post pair-all-Inv-loop pair-all-μ-loop
+pair-all-returns t c =
+    let loop = c .before .loop in
+    let start = c .before .before .before .before in
+    let args = start .args in
+    let pre = start .pre in
+    let p = probs (args .sat) (args .dissat) in
+    let q = policyAt (args .pol .now) (args .r) in
+    let again = againIn (args .context) q p in
+    pair-all-ends (args .context) p again (args .t7) (args .k) (args .slots) (pre .1 .1 .1)
+    (omega (arith, loop .inv .1 .1 .0, pre .1 .1 .0)) (loop .i) (loop .inv .0) (c .loop-test .left) (loop .inv .1 .0)
 
-search-recall-requires : (t : ℕ) → search-lts.Need-recall-requires (
+-- ---- search
+
+abbrev search-calls : ℕ → search-lts.Claims
+search-calls t = (
   recall-reads.Asked,
   recall-reads.Learnt,
   body-below t,
   body.Post,
   remember-reads.Asked,
   remember-reads.Learnt,
-) (search-at t) search′.Post
-search-recall-requires t c κs = (c .before .before .before .pre .1 .classed, (c .before .before .before .pre .1 .named, c .before .before .before .pre .1 .ready))
+)
 
-search-enum-known-s : (t : ℕ) → search-lts.Need-enum-known-s (
-  recall-reads.Asked,
-  recall-reads.Learnt,
-  body-below t,
-  body.Post,
-  remember-reads.Asked,
-  remember-reads.Learnt,
-) (search-at t) search′.Post
+search-recall-requires : (t : ℕ) → search-lts.Need-recall-requires (search-calls t) (search-at t) search′.Post
+search-recall-requires t c κs =
+    let pre = c .before .before .before .pre in
+    (pre .1 .classed, (pre .1 .named, pre .1 .ready))
+
+search-enum-known-s : (t : ℕ) → search-lts.Need-enum-known-s (search-calls t) (search-at t) search′.Post
 search-enum-known-s t c = search needs
 
-search-enum-told : (t : ℕ) → search-lts.Need-enum-told (
-  recall-reads.Asked,
-  recall-reads.Learnt,
-  body-below t,
-  body.Post,
-  remember-reads.Asked,
-  remember-reads.Learnt,
-) (search-at t) search′.Post
+search-enum-told : (t : ℕ) → search-lts.Need-enum-told (search-calls t) (search-at t) search′.Post
 search-enum-told t c = search needs
 
-search-body-requires : (t : ℕ) → search-lts.Need-body-requires (
-  recall-reads.Asked,
-  recall-reads.Learnt,
-  body-below t,
-  body.Post,
-  remember-reads.Asked,
-  remember-reads.Learnt,
-) (search-at t) search′.Post
-search-body-requires t c κs = (goes-down (c .before .before .before .before .before .before .before .args .pol .now) (c .before .before .before .before .before .before .before .args .r) (c .before .before .before .before .before .before .before .args .dissat) 15 16 (omega arith) (c .before .before .before .before .before .before .before .pre .0), c .before .before .before .before .before .before .before .pre .1)
+search-body-requires : (t : ℕ) → search-lts.Need-body-requires (search-calls t) (search-at t) search′.Post
+search-body-requires t c κs =
+    let pre = c .before .before .before .before .before .before .before .pre in
+    (below (omega arith) (pre .0), pre .1)
 
-search-remember-requires : (t : ℕ) → search-lts.Need-remember-requires (
-  recall-reads.Asked,
-  recall-reads.Learnt,
-  body-below t,
-  body.Post,
-  remember-reads.Asked,
-  remember-reads.Learnt,
-) (search-at t) search′.Post
-search-remember-requires t c κs = (c .before .before .before .before .before .before .before .before .before .before .before .pre .1 .classed, (c .before .before .before .before .before .before .before .before .before .before .before .pre .1 .named, (c .before .before .before .body .ensures .ready, c .before .before .before .body .ensures .table)))
+search-remember-requires : (t : ℕ) → search-lts.Need-remember-requires (search-calls t) (search-at t) search′.Post
+search-remember-requires t c κs =
+    let body = c .before .before .before .body in
+    let pre = c .before .before .before .before .before .before .before .before .before .before .before .pre in
+    (pre .1 .classed, (pre .1 .named, (body .ensures .ready, body .ensures .table)))
 
-search-same-length : (t : ℕ) → search-lts.Need-same-length (
-  recall-reads.Asked,
-  recall-reads.Learnt,
-  body-below t,
-  body.Post,
-  remember-reads.Asked,
-  remember-reads.Learnt,
-) (search-at t) search′.Post
+search-same-length : (t : ℕ) → search-lts.Need-same-length (search-calls t) (search-at t) search′.Post
 search-same-length t c = refl
 
-search-returns : (t : ℕ) → search-lts.Need-returns (
-  recall-reads.Asked,
-  recall-reads.Learnt,
-  body-below t,
-  body.Post,
-  remember-reads.Asked,
-  remember-reads.Learnt,
-) (search-at t) search′.Post
-search-returns t c = search-found (c .before .before .before .before .before .before .before .args .context) (c .before .before .before .before .before .before .before .pre .1 .ready) (c .before .s .given .0 .0) (c .before .s .given .1) (c .before .before .before .recall .ensures)
+search-returns : (t : ℕ) → search-lts.Need-returns (search-calls t) (search-at t) search′.Post
+search-returns t c =
+    let s = c .before .s in
+    let recall = c .before .before .before .recall in
+    let start = c .before .before .before .before .before .before .before in
+    let args = start .args in
+    let pre = start .pre in
+    search-found (args .context) (pre .1 .ready) (s .given .0 .0) (s .given .1) (recall .ensures)
 
-search-same-length-2 : (t : ℕ) → search-lts.Need-same-length-2 (
-  recall-reads.Asked,
-  recall-reads.Learnt,
-  body-below t,
-  body.Post,
-  remember-reads.Asked,
-  remember-reads.Learnt,
-) (search-at t) search′.Post
-search-same-length-2 t c = ready-long (c .before .before .before .before .before .before .before .before .before .before .before .before .before .before .pre .1 .ready) (c .before .before .remember .ensures .ready)
+search-same-length-2 : (t : ℕ) → search-lts.Need-same-length-2 (search-calls t) (search-at t) search′.Post
+search-same-length-2 t c =
+    let remember = c .before .before .remember in
+    let earlier = c .before .before .before .before .before .before .before .before .before .before .before .before in
+    let pre = earlier .before .before .pre in
+    ready-long (pre .1 .ready) (remember .ensures .ready)
 
-search-returns-2 : (t : ℕ) → search-lts.Need-returns-2 (
-  recall-reads.Asked,
-  recall-reads.Learnt,
-  body-below t,
-  body.Post,
-  remember-reads.Asked,
-  remember-reads.Learnt,
-) (search-at t) search′.Post
-search-returns-2 t c = search-made (c .before .before .before .before .before .before .before .before .before .before .before .before .before .before .args .context) (c .before .before .before .before .before .before .before .before .before .before .before .before .before .before .pre .1 .ready) (c .before .before .before .before .before .before .before .before .enum-told .given .1) (c .before .before .before .before .before .before .before .before .before .before .recall .ensures) (c .before .before .before .before .before .before .body .ensures) (c .before .before .remember .ensures)
+search-returns-2 : (t : ℕ) → search-lts.Need-returns-2 (search-calls t) (search-at t) search′.Post
+search-returns-2 t c =
+    let remember = c .before .before .remember in
+    let at-body = c .before .before .before .before .before .before in
+    let body = at-body .body in
+    let enum-told = at-body .before .before .enum-told in
+    let recall = at-body .before .before .before .before .recall in
+    let start = at-body .before .before .before .before .before .before .before .before in
+    let args = start .args in
+    let pre = start .pre in
+    search-made (args .context) (pre .1 .ready) (enum-told .given .1) (recall .ensures) (body .ensures) (remember .ensures)
+
+-- ---- search_all
 
 abbrev search-all-Inv-loop : search-all-lts.InvT-loop
-search-all-Inv-loop context pol work₀ r n asks slots₀ j₀ work slots j = Asking context pol asks n work₀ j slots work × ((j ≤ n) × (length slots ≡ 8))
+search-all-Inv-loop context pol work₀ r n asks slots₀ j₀ work slots j =
+    Asking context pol asks n work₀ j slots work × ((j ≤ n) × (length slots ≡ 8))
 
 abbrev search-all-μ-loop : search-all-lts.MeasureT-loop
 search-all-μ-loop context pol work₀ r n asks slots₀ j₀ work slots j = n - j
 
-search-all-loop-holds :
-    (t : ℕ) →
-    search-all-lts.Need-loop-holds
-    (search-below t, search′.Post)
-    (search-all-at t)
-    search-all.Post
-    search-all-Inv-loop
-    search-all-μ-loop
-search-all-loop-holds t c = (asking-begins (c .before .before .args .context) (c .before .before .args .t6) (c .before .before .args .n) (c .before .before .pre .1 .0 .ready) _, (omega arith, refl))
+abbrev search-all-calls : ℕ → search-all-lts.Claims
+search-all-calls t = (search-below t, search′.Post)
 
-search-all-mul-a :
-    (t : ℕ) →
-    search-all-lts.Need-mul-a
-    (search-below t, search′.Post)
-    (search-all-at t)
-    search-all.Post
-    search-all-Inv-loop
-    search-all-μ-loop
+search-all-loop-holds : (t : ℕ) →
+    search-all-lts.Need-loop-holds (search-all-calls t) (search-all-at t) search-all.Post search-all-Inv-loop search-all-μ-loop
+search-all-loop-holds t c =
+    let start = c .before .before in
+    let args = start .args in
+    let pre = start .pre in
+    (asking-begins (args .context) (args .t6) (args .n) (pre .1 .0 .ready) _, (omega arith, refl))
+
+search-all-mul-a : (t : ℕ) →
+    search-all-lts.Need-mul-a (search-all-calls t) (search-all-at t) search-all.Post search-all-Inv-loop search-all-μ-loop
 search-all-mul-a t c = search needs
 
-search-all-array-copy-out-a : (t : ℕ) → search-all-lts.Need-array-copy-out-a (
-  search-below t,
-  search′.Post,
-) (search-all-at t) search-all.Post search-all-Inv-loop search-all-μ-loop
-search-all-array-copy-out-a t c = omega (arith, c .loop-test .taken, c .before .before .before .before .pre .1 .1 .0)
+search-all-array-copy-out-a : (t : ℕ) →
+    search-all-lts.Need-array-copy-out-a (search-all-calls t) (search-all-at t) search-all.Post search-all-Inv-loop search-all-μ-loop
+search-all-array-copy-out-a t c =
+    let pre = c .before .before .before .before .pre in
+    omega (arith, c .loop-test .taken, pre .1 .1 .0)
 
-search-all-search-requires : (t : ℕ) → search-all-lts.Need-search-requires (
-  search-below t,
-  search′.Post,
-) (search-all-at t) search-all.Post search-all-Inv-loop search-all-μ-loop
+search-all-search-requires : (t : ℕ) →
+    search-all-lts.Need-search-requires (search-all-calls t) (search-all-at t) search-all.Post search-all-Inv-loop search-all-μ-loop
 search-all-search-requires t c κs =
-    let long : length (c .before .before .before .before .before .before .args .t6) ≡ 8 = search needs in (
-      below (ask-falls (c .before .before .before .before .before .before .args .pol .now) (c .before .before .before .before .before .before .args .r) (c .before .before .before .before .before .before .args .dissat) (c .before .before .before .before .before .before .args .t6) (c .before .before .before .before .before .before .args .n) (omega (arith, long, c .before .before .before .before .before .before .pre .1 .1 .0)) (c .before .before .before .before .before .before .pre .1 .1 .1) (c .before .before .before .loop .j)
-          (c .before .before .loop-test .taken) noAsk 16 11 (omega arith)) (c .before .before .before .before .before .before .pre .0),
-      asking-going (c .before .before .before .before .before .before .args .context) (c .before .before .before .before .before .before .args .t6) (c .before .before .before .before .before .before .args .n) (omega (arith, long, c .before .before .before .before .before .before .pre .1 .1 .0)) (c .before .before .before .loop .j) (c .before .before .before .loop .slots) (c .before .before .before .loop .inv .0) (c .before .before .loop-test .taken) noAsk refl (c .before .before .before .before .before .before .pre .1 .0) (c .before .before .before .before .before .before .pre .1 .1 .1),
+    let long : length (c .before .before .before .before .before .before .args .t6) ≡ 8 = search needs in
+    let loop-test = c .before .before .loop-test in
+    let loop = c .before .before .before .loop in
+    let start = c .before .before .before .before .before .before in
+    let args = start .args in
+    let pre = start .pre in (
+      below
+          (ask-falls (args .pol .now) (args .r) (args .dissat) (args .t6) (args .n) (omega (arith, long, pre .1 .1 .0))
+          (pre .1 .1 .1) (loop .j) (loop-test .taken) noAsk 16 11 (omega arith)) (pre .0),
+      asking-going (args .context) (args .t6) (args .n) (omega (arith, long, pre .1 .1 .0)) (loop .j) (loop .slots)
+          (loop .inv .0) (loop-test .taken) noAsk refl (pre .1 .0) (pre .1 .1 .1),
     )
 
-search-all-enum-known-no : (t : ℕ) → search-all-lts.Need-enum-known-no (
-  search-below t,
-  search′.Post,
-) (search-all-at t) search-all.Post search-all-Inv-loop search-all-μ-loop
+search-all-enum-known-no : (t : ℕ) →
+    search-all-lts.Need-enum-known-no (search-all-calls t) (search-all-at t) search-all.Post search-all-Inv-loop search-all-μ-loop
 search-all-enum-known-no t c = search needs
 
-search-all-same-length :
-    (t : ℕ) →
-    search-all-lts.Need-same-length
-    (search-below t, search′.Post)
-    (search-all-at t)
-    search-all.Post
-    search-all-Inv-loop
-    search-all-μ-loop
-search-all-same-length t c = ready-long (c .before .before .before .before .before .before .before .before .before .before .before .before .pre .1 .0 .ready) (c .before .before .before .before .before .search .ensures .ready)
+search-all-same-length : (t : ℕ) →
+    search-all-lts.Need-same-length (search-all-calls t) (search-all-at t) search-all.Post search-all-Inv-loop search-all-μ-loop
+search-all-same-length t c =
+    let searched = c .before .before .before .before .before .search in
+    let pre = c .before .before .before .before .before .before .before .before .before .before .before .before .pre in
+    ready-long (pre .1 .0 .ready) (searched .ensures .ready)
 
-search-all-returns :
-    (t : ℕ) →
-    search-all-lts.Need-returns
-    (search-below t, search′.Post)
-    (search-all-at t)
-    search-all.Post
-    search-all-Inv-loop
-    search-all-μ-loop
+search-all-returns : (t : ℕ) →
+    search-all-lts.Need-returns (search-all-calls t) (search-all-at t) search-all.Post search-all-Inv-loop search-all-μ-loop
 search-all-returns t c =
     let long : length (c .before .before .before .before .before .before .before .before .before .before .before .before .args .t6) ≡ 8 = search needs in
-    asking-refused (c .before .before .before .before .before .before .before .before .before .before .before .before .args .context) (c .before .before .before .before .before .before .before .before .before .before .before .before .args .t6) (c .before .before .before .before .before .before .before .before .before .before .before .before .args .n) (omega (arith, long, c .before .before .before .before .before .before .before .before .before .before .before .before .pre .1 .1 .0)) (c .before .before .before .before .before .before .before .before .before .loop .j) (c .before .before .before .before .before .before .before .before .before .loop .slots) (c .before .before .before .before .before .before .before .before .before .loop .inv .0) (c .before .before .before .before .before .before .before .before .loop-test .taken) noAsk refl (c .before .before .before .before .before .search .ensures) (c .before .no .given .1)
+    let no = c .before .no in
+    let searched = c .before .before .before .before .before .search in
+    let at-loop-test = c .before .before .before .before .before .before .before .before in
+    let loop-test = at-loop-test .loop-test in
+    let loop = at-loop-test .before .loop in
+    let start = at-loop-test .before .before .before .before in
+    let args = start .args in
+    let pre = start .pre in
+    asking-refused (args .context) (args .t6) (args .n) (omega (arith, long, pre .1 .1 .0)) (loop .j) (loop .slots)
+    (loop .inv .0) (loop-test .taken) noAsk refl (searched .ensures) (no .given .1)
 
-search-all-enum-known-s : (t : ℕ) → search-all-lts.Need-enum-known-s (
-  search-below t,
-  search′.Post,
-) (search-all-at t) search-all.Post search-all-Inv-loop search-all-μ-loop
+search-all-enum-known-s : (t : ℕ) →
+    search-all-lts.Need-enum-known-s (search-all-calls t) (search-all-at t) search-all.Post search-all-Inv-loop search-all-μ-loop
 search-all-enum-known-s t c = search needs
 
-search-all-mul-slots :
-    (t : ℕ) →
-    search-all-lts.Need-mul-slots
-    (search-below t, search′.Post)
-    (search-all-at t)
-    search-all.Post
-    search-all-Inv-loop
-    search-all-μ-loop
+search-all-mul-slots : (t : ℕ) →
+    search-all-lts.Need-mul-slots (search-all-calls t) (search-all-at t) search-all.Post search-all-Inv-loop search-all-μ-loop
 search-all-mul-slots t c = search needs
 
-search-all-array-write-slots : (t : ℕ) → search-all-lts.Need-array-write-slots (
-  search-below t,
-  search′.Post,
-) (search-all-at t) search-all.Post search-all-Inv-loop search-all-μ-loop
-search-all-array-write-slots t c = omega (arith, c .before .before .before .before .before .before .before .before .loop-test .taken, c .before .before .before .before .before .before .before .before .before .before .before .before .pre .1 .1 .0)
+search-all-array-write-slots : (t : ℕ) →
+    search-all-lts.Need-array-write-slots (search-all-calls t) (search-all-at t) search-all.Post search-all-Inv-loop search-all-μ-loop
+search-all-array-write-slots t c =
+    let at-loop-test = c .before .before .before .before .before .before .before .before in
+    let loop-test = at-loop-test .loop-test in
+    let pre = at-loop-test .before .before .before .before .pre in
+    omega (arith, loop-test .taken, pre .1 .1 .0)
 
-search-all-add-j :
-    (t : ℕ) →
-    search-all-lts.Need-add-j
-    (search-below t, search′.Post)
-    (search-all-at t)
-    search-all.Post
-    search-all-Inv-loop
-    search-all-μ-loop
-search-all-add-j t c = omega (arith, c .before .before .before .before .before .before .before .before .loop-test .taken, c .before .before .before .before .before .before .before .before .before .before .before .before .pre .1 .1 .0)
+search-all-add-j : (t : ℕ) →
+    search-all-lts.Need-add-j (search-all-calls t) (search-all-at t) search-all.Post search-all-Inv-loop search-all-μ-loop
+search-all-add-j t c =
+    let at-loop-test = c .before .before .before .before .before .before .before .before in
+    let loop-test = at-loop-test .loop-test in
+    let pre = at-loop-test .before .before .before .before .pre in
+    omega (arith, loop-test .taken, pre .1 .1 .0)
 
-search-all-loop-less :
-    (t : ℕ) →
-    search-all-lts.Need-loop-less
-    (search-below t, search′.Post)
-    (search-all-at t)
-    search-all.Post
-    search-all-Inv-loop
-    search-all-μ-loop
-search-all-loop-less t c = omega (arith, c .before .before .before .before .before .before .before .before .loop-test .taken)
+search-all-loop-less : (t : ℕ) →
+    search-all-lts.Need-loop-less (search-all-calls t) (search-all-at t) search-all.Post search-all-Inv-loop search-all-μ-loop
+search-all-loop-less t c =
+    let loop-test = c .before .before .before .before .before .before .before .before .loop-test in
+    omega (arith, loop-test .taken)
 
-search-all-loop-again :
-    (t : ℕ) →
-    search-all-lts.Need-loop-again
-    (search-below t, search′.Post)
-    (search-all-at t)
-    search-all.Post
-    search-all-Inv-loop
-    search-all-μ-loop
+search-all-loop-again : (t : ℕ) →
+    search-all-lts.Need-loop-again (search-all-calls t) (search-all-at t) search-all.Post search-all-Inv-loop search-all-μ-loop
 search-all-loop-again t c =
-    let long : length (c .before .before .before .before .before .before .before .before .before .before .before .before .args .t6) ≡ 8 = search needs in (
-      asking-goes-on (c .before .before .before .before .before .before .before .before .before .before .before .before .args .context) (c .before .before .before .before .before .before .before .before .before .before .before .before .args .t6) (c .before .before .before .before .before .before .before .before .before .before .before .before .args .n) (omega (arith, long, c .before .before .before .before .before .before .before .before .before .before .before .before .pre .1 .1 .0)) (c .before .before .before .before .before .before .before .before .before .loop .j) (c .before .before .before .before .before .before .before .before .before .loop .slots) (c .before .before .before .before .before .before .before .before .before .loop .inv .0) (c .before .before .before .before .before .before .before .before .loop-test .taken) noAsk refl (c .before .before .before .before .before .search .ensures) (omega (arith, c .before .before .before .before .before .before .before .before .before .loop .inv .1 .1, c .before .before .before .before .before .before .before .before .loop-test .taken, c .before .before .before .before .before .before .before .before .before .before .before .before .pre .1 .1 .0)) (c .before .s .given .1),
-      (omega (arith, c .before .before .before .before .before .before .before .before .loop-test .taken), simp length-set (c .before .before .before .before .before .before .before .before .before .loop .inv .1 .1)),
+    let long : length (c .before .before .before .before .before .before .before .before .before .before .before .before .args .t6) ≡ 8 = search needs in
+    let s = c .before .s in
+    let searched = c .before .before .before .before .before .search in
+    let at-loop-test = c .before .before .before .before .before .before .before .before in
+    let loop-test = at-loop-test .loop-test in
+    let loop = at-loop-test .before .loop in
+    let start = at-loop-test .before .before .before .before in
+    let args = start .args in
+    let pre = start .pre in (
+      asking-goes-on (args .context) (args .t6) (args .n) (omega (arith, long, pre .1 .1 .0)) (loop .j) (loop .slots)
+          (loop .inv .0) (loop-test .taken) noAsk refl (searched .ensures)
+          (omega (arith, loop .inv .1 .1, loop-test .taken, pre .1 .1 .0)) (s .given .1),
+      (omega (arith, loop-test .taken), simp length-set (loop .inv .1 .1)),
     )
 
-search-all-same-length-2 : (t : ℕ) → search-all-lts.Need-same-length-2 (
-  search-below t,
-  search′.Post,
-) (search-all-at t) search-all.Post search-all-Inv-loop search-all-μ-loop
-search-all-same-length-2 t c = ready-long (c .before .before .before .before .pre .1 .0 .ready) (c .before .loop .inv .0 .ready)
+search-all-same-length-2 : (t : ℕ) →
+    search-all-lts.Need-same-length-2 (search-all-calls t) (search-all-at t) search-all.Post search-all-Inv-loop search-all-μ-loop
+search-all-same-length-2 t c =
+    let loop = c .before .loop in
+    let pre = c .before .before .before .before .pre in
+    ready-long (pre .1 .0 .ready) (loop .inv .0 .ready)
 
-search-all-returns-2 :
-    (t : ℕ) →
-    search-all-lts.Need-returns-2
-    (search-below t, search′.Post)
-    (search-all-at t)
-    search-all.Post
-    search-all-Inv-loop
-    search-all-μ-loop
+search-all-returns-2 : (t : ℕ) →
+    search-all-lts.Need-returns-2 (search-all-calls t) (search-all-at t) search-all.Post search-all-Inv-loop search-all-μ-loop
 search-all-returns-2 t c =
     let long : length (c .before .before .before .before .args .t6) ≡ 8 = search needs in
-    asking-ends (c .before .before .before .before .args .context) (c .before .before .before .before .args .t6) (c .before .before .before .before .args .n) (omega (arith, long, c .before .before .before .before .pre .1 .1 .0)) (c .before .loop .j) (c .before .loop .slots) (c .before .loop .inv .0) (c .loop-test .left) (c .before .loop .inv .1 .0)
+    let loop = c .before .loop in
+    let start = c .before .before .before .before in
+    let args = start .args in
+    let pre = start .pre in
+    asking-ends (args .context) (args .t6) (args .n) (omega (arith, long, pre .1 .1 .0)) (loop .j) (loop .slots) (loop .inv .0)
+    (c .loop-test .left) (loop .inv .1 .0)
 
-stage-enum-known-end : (t : ℕ) → stage-lts.Need-enum-known-end (
-  search-all-below t,
-  search-all.Post,
-  pair-all-below t,
-  pair-all.Post,
-) (stage-at t) stage.Post
+-- ---- stage
+
+abbrev stage-calls : ℕ → stage-lts.Claims
+stage-calls t = (search-all-below t, search-all.Post, pair-all-below t, pair-all.Post)
+
+stage-enum-known-end : (t : ℕ) → stage-lts.Need-enum-known-end (stage-calls t) (stage-at t) stage.Post
 stage-enum-known-end t c = search needs
 
-stage-returns : (t : ℕ) → stage-lts.Need-returns (
-  search-all-below t,
-  search-all.Post,
-  pair-all-below t,
-  pair-all.Post,
-) (stage-at t) stage.Post
-stage-returns t c = stops (c .before .before .before .before .before .before .pre .1 .0) _ (c .before .end .given .1)
+stage-returns : (t : ℕ) → stage-lts.Need-returns (stage-calls t) (stage-at t) stage.Post
+stage-returns t c =
+    let end = c .before .end in
+    let pre = c .before .before .before .before .before .before .pre in
+    stops (pre .1 .0) _ (end .given .1)
 
-stage-enum-told : (t : ℕ) → stage-lts.Need-enum-told (
-  search-all-below t,
-  search-all.Post,
-  pair-all-below t,
-  pair-all.Post,
-) (stage-at t) stage.Post
+stage-enum-told : (t : ℕ) → stage-lts.Need-enum-told (stage-calls t) (stage-at t) stage.Post
 stage-enum-told t c = search needs
 
-stage-search-all-requires : (t : ℕ) → stage-lts.Need-search-all-requires (
-  search-all-below t,
-  search-all.Post,
-  pair-all-below t,
-  pair-all.Post,
-) (stage-at t) stage.Post
-stage-search-all-requires t c κs = (below (rank-falls (c .before .before .before .before .before .before .args .pol .now) (c .before .before .before .before .before .before .args .r) (c .before .before .before .before .before .before .args .dissat) 11 12 (omega arith)) (c .before .before .before .before .before .before .pre .0), (doing-going (c .before .before .before .before .before .before .pre .1 .0) (c .before .enum-told .given .1), (c .before .before .before .before .before .before .pre .1 .1 .0, c .before .before .before .before .before .before .pre .1 .1 .1 .0)))
+stage-search-all-requires : (t : ℕ) → stage-lts.Need-search-all-requires (stage-calls t) (stage-at t) stage.Post
+stage-search-all-requires t c κs =
+    let enum-told = c .before .enum-told in
+    let pre = c .before .before .before .before .before .before .pre in
+    (below (omega arith) (pre .0), (doing-going (pre .1 .0) (enum-told .given .1), (pre .1 .1 .0, pre .1 .1 .1 .0)))
 
-stage-enum-known-stop : (t : ℕ) → stage-lts.Need-enum-known-stop (
-  search-all-below t,
-  search-all.Post,
-  pair-all-below t,
-  pair-all.Post,
-) (stage-at t) stage.Post
+stage-enum-known-stop : (t : ℕ) → stage-lts.Need-enum-known-stop (stage-calls t) (stage-at t) stage.Post
 stage-enum-known-stop t c = search needs
 
-stage-enum-told-2 : (t : ℕ) → stage-lts.Need-enum-told-2 (
-  search-all-below t,
-  search-all.Post,
-  pair-all-below t,
-  pair-all.Post,
-) (stage-at t) stage.Post
+stage-enum-told-2 : (t : ℕ) → stage-lts.Need-enum-told-2 (stage-calls t) (stage-at t) stage.Post
 stage-enum-told-2 t c = search needs
 
-stage-pair-all-requires : (t : ℕ) → stage-lts.Need-pair-all-requires (
-  search-all-below t,
-  search-all.Post,
-  pair-all-below t,
-  pair-all.Post,
-) (stage-at t) stage.Post
+stage-pair-all-requires : (t : ℕ) → stage-lts.Need-pair-all-requires (stage-calls t) (stage-at t) stage.Post
 stage-pair-all-requires t c κs =
-    let long : length (c .before .before .before .before .before .before .search-all .result .slots) ≡ 8 = search needs in (
-      below (rank-falls (c .before .before .before .before .before .before .before .before .before .before .before .before .before .args .pol .now) (c .before .before .before .before .before .before .before .before .before .before .before .before .before .args .r) (c .before .before .before .before .before .before .before .before .before .before .before .before .before .args .dissat) 11 12 (omega arith)) (c .before .before .before .before .before .before .before .before .before .before .before .before .before .pre .0),
+    let long : length (c .before .before .before .before .before .before .search-all .result .slots) ≡ 8 = search needs in
+    let enum-told2 = c .before .enum-told2 in
+    let at-search-all = c .before .before .before .before .before .before in
+    let search-all = at-search-all .search-all in
+    let enum-told = at-search-all .before .before .enum-told in
+    let start = at-search-all .before .before .before .before .before .before .before in
+    let args = start .args in
+    let pre = start .pre in
+    let p = probs (args .sat) (args .dissat) in
+    let q = policyAt (args .pol .now) (args .r) in
+    let again = againIn (args .context) q p in (
+      below (omega arith) (pre .0),
       (
-        stage-doing (c .before .before .before .before .before .before .before .before .before .before .before .before .before .args .context) (probs (c .before .before .before .before .before .before .before .before .before .before .before .before .before .args .sat) (c .before .before .before .before .before .before .before .before .before .before .before .before .before .args .dissat)) (againIn (c .before .before .before .before .before .before .before .before .before .before .before .before .before .args .context) (policyAt (c .before .before .before .before .before .before .before .before .before .before .before .before .before .args .pol .now) (c .before .before .before .before .before .before .before .before .before .before .before .before .before .args .r)) (probs (c .before .before .before .before .before .before .before .before .before .before .before .before .before .args .sat) (c .before .before .before .before .before .before .before .before .before .before .before .before .before .args .dissat))) (c .before .before .before .before .before .before .before .before .before .before .before .before .before .pre .1 .0) (c .before .before .before .before .before .before .before .before .enum-told .given .1) (c .before .before .before .before .before .before .before .before .before .before .before .before .before .args .asks) (c .before .before .before .before .before .before .before .before .before .before .before .before .before .args .n) (take (c .before .before .before .before .before .before .before .before .before .before .before .before .before .args .k) (c .before .before .before .before .before .before .before .before .before .before .before .before .before .args .pairings)) (c .before .before .before .before .before .before .search-all .ensures) (c .before .enum-told2 .given .1),
-        (c .before .before .before .before .before .before .before .before .before .before .before .before .before .pre .1 .1 .1 .1 .0, stage-paired (c .before .before .before .before .before .before .before .before .before .before .before .before .before .args .context) (probs (c .before .before .before .before .before .before .before .before .before .before .before .before .before .args .sat) (c .before .before .before .before .before .before .before .before .before .before .before .before .before .args .dissat)) (againIn (c .before .before .before .before .before .before .before .before .before .before .before .before .before .args .context) (policyAt (c .before .before .before .before .before .before .before .before .before .before .before .before .before .args .pol .now) (c .before .before .before .before .before .before .before .before .before .before .before .before .before .args .r)) (probs (c .before .before .before .before .before .before .before .before .before .before .before .before .before .args .sat) (c .before .before .before .before .before .before .before .before .before .before .before .before .before .args .dissat))) (c .before .before .before .before .before .before .before .before .before .before .before .before .before .pre .1 .0) (c .before .before .before .before .before .before .before .before .enum-told .given .1) (c .before .before .before .before .before .before .before .before .before .before .before .before .before .args .asks) (c .before .before .before .before .before .before .before .before .before .before .before .before .before .args .n) (take (c .before .before .before .before .before .before .before .before .before .before .before .before .before .args .k) (c .before .before .before .before .before .before .before .before .before .before .before .before .before .args .pairings)) (c .before .before .before .before .before .before .search-all .ensures) (c .before .enum-told2 .given .1) (omega (arith, long, c .before .before .before .before .before .before .before .before .before .before .before .before .before .pre .1 .1 .0)) (c .before .before .before .before .before .before .before .before .before .before .before .before .before .pre .1 .1 .1 .1 .1) (c .before .before .before .before .before .before .before .before .before .before .before .before .before .pre .1 .1 .0)),
+        stage-doing (args .context) p again (pre .1 .0) (enum-told .given .1) (args .asks) (args .n)
+            (take (args .k) (args .pairings)) (search-all .ensures) (enum-told2 .given .1),
+        (
+          pre .1 .1 .1 .1 .0,
+          stage-paired (args .context) p again (pre .1 .0) (enum-told .given .1) (args .asks) (args .n)
+              (take (args .k) (args .pairings)) (search-all .ensures) (enum-told2 .given .1) (omega (arith, long, pre .1 .1 .0))
+              (pre .1 .1 .1 .1 .1) (pre .1 .1 .0),
+        ),
       ),
     )
 
-stage-same-length : (t : ℕ) → stage-lts.Need-same-length (
-  search-all-below t,
-  search-all.Post,
-  pair-all-below t,
-  pair-all.Post,
-) (stage-at t) stage.Post
-stage-same-length t c = ready-long (c .before .before .before .before .before .before .before .before .before .before .before .before .before .pre .1 .0 .ready) (c .before .before .before .before .before .before .search-all .ensures .ready)
+stage-same-length : (t : ℕ) → stage-lts.Need-same-length (stage-calls t) (stage-at t) stage.Post
+stage-same-length t c =
+    let at-search-all = c .before .before .before .before .before .before in
+    let search-all = at-search-all .search-all in
+    let pre = at-search-all .before .before .before .before .before .before .before .pre in
+    ready-long (pre .1 .0 .ready) (search-all .ensures .ready)
 
-stage-returns-2 : (t : ℕ) → stage-lts.Need-returns-2 (
-  search-all-below t,
-  search-all.Post,
-  pair-all-below t,
-  pair-all.Post,
-) (stage-at t) stage.Post
-stage-returns-2 t c = stage-refused (c .before .before .before .before .before .before .before .before .before .before .before .before .before .args .context) (probs (c .before .before .before .before .before .before .before .before .before .before .before .before .before .args .sat) (c .before .before .before .before .before .before .before .before .before .before .before .before .before .args .dissat)) (againIn (c .before .before .before .before .before .before .before .before .before .before .before .before .before .args .context) (policyAt (c .before .before .before .before .before .before .before .before .before .before .before .before .before .args .pol .now) (c .before .before .before .before .before .before .before .before .before .before .before .before .before .args .r)) (probs (c .before .before .before .before .before .before .before .before .before .before .before .before .before .args .sat) (c .before .before .before .before .before .before .before .before .before .before .before .before .before .args .dissat))) (c .before .before .before .before .before .before .before .before .before .before .before .before .before .pre .1 .0) (c .before .before .before .before .before .before .before .before .enum-told .given .1) (c .before .before .before .before .before .before .before .before .before .before .before .before .before .args .asks) (c .before .before .before .before .before .before .before .before .before .before .before .before .before .args .n) (take (c .before .before .before .before .before .before .before .before .before .before .before .before .before .args .k) (c .before .before .before .before .before .before .before .before .before .before .before .before .before .args .pairings)) (c .before .before .before .before .before .before .search-all .ensures) (c .before .stop .given .1)
+stage-returns-2 : (t : ℕ) → stage-lts.Need-returns-2 (stage-calls t) (stage-at t) stage.Post
+stage-returns-2 t c =
+    let stop = c .before .stop in
+    let at-search-all = c .before .before .before .before .before .before in
+    let search-all = at-search-all .search-all in
+    let enum-told = at-search-all .before .before .enum-told in
+    let start = at-search-all .before .before .before .before .before .before .before in
+    let args = start .args in
+    let pre = start .pre in
+    let p = probs (args .sat) (args .dissat) in
+    let q = policyAt (args .pol .now) (args .r) in
+    let again = againIn (args .context) q p in
+    stage-refused (args .context) p again (pre .1 .0) (enum-told .given .1) (args .asks) (args .n)
+    (take (args .k) (args .pairings)) (search-all .ensures) (stop .given .1)
 
-stage-same-length-2 : (t : ℕ) → stage-lts.Need-same-length-2 (
-  search-all-below t,
-  search-all.Post,
-  pair-all-below t,
-  pair-all.Post,
-) (stage-at t) stage.Post
-stage-same-length-2 t c = ready-long (c .before .before .before .before .before .before .before .before .before .before .before .before .before .before .before .before .pre .1 .0 .ready) (c .before .before .pair-all .ensures .ready)
+stage-same-length-2 : (t : ℕ) → stage-lts.Need-same-length-2 (stage-calls t) (stage-at t) stage.Post
+stage-same-length-2 t c =
+    let pair-all = c .before .before .pair-all in
+    let earlier = c .before .before .before .before .before .before .before .before .before .before .before .before in
+    let pre = earlier .before .before .before .before .pre in
+    ready-long (pre .1 .0 .ready) (pair-all .ensures .ready)
 
-stage-returns-3 : (t : ℕ) → stage-lts.Need-returns-3 (
-  search-all-below t,
-  search-all.Post,
-  pair-all-below t,
-  pair-all.Post,
-) (stage-at t) stage.Post
+stage-returns-3 : (t : ℕ) → stage-lts.Need-returns-3 (stage-calls t) (stage-at t) stage.Post
 stage-returns-3 t c =
     let long : length (c .before .before .before .before .before .before .before .before .before .search-all .result .slots) ≡ 8 = search needs in
-    stage-done (c .before .before .before .before .before .before .before .before .before .before .before .before .before .before .before .before .args .context) (probs (c .before .before .before .before .before .before .before .before .before .before .before .before .before .before .before .before .args .sat) (c .before .before .before .before .before .before .before .before .before .before .before .before .before .before .before .before .args .dissat)) (againIn (c .before .before .before .before .before .before .before .before .before .before .before .before .before .before .before .before .args .context) (policyAt (c .before .before .before .before .before .before .before .before .before .before .before .before .before .before .before .before .args .pol .now) (c .before .before .before .before .before .before .before .before .before .before .before .before .before .before .before .before .args .r)) (probs (c .before .before .before .before .before .before .before .before .before .before .before .before .before .before .before .before .args .sat) (c .before .before .before .before .before .before .before .before .before .before .before .before .before .before .before .before .args .dissat))) (c .before .before .before .before .before .before .before .before .before .before .before .before .before .before .before .before .pre .1 .0) (c .before .before .before .before .before .before .before .before .before .before .before .enum-told .given .1) (c .before .before .before .before .before .before .before .before .before .before .before .before .before .before .before .before .args .asks) (c .before .before .before .before .before .before .before .before .before .before .before .before .before .before .before .before .args .n) (take (c .before .before .before .before .before .before .before .before .before .before .before .before .before .before .before .before .args .k) (c .before .before .before .before .before .before .before .before .before .before .before .before .before .before .before .before .args .pairings)) (c .before .before .before .before .before .before .before .before .before .search-all .ensures) (c .before .before .before .before .enum-told2 .given .1) (omega (arith, long, c .before .before .before .before .before .before .before .before .before .before .before .before .before .before .before .before .pre .1 .1 .0)) (c .before .before .before .before .before .before .before .before .before .before .before .before .before .before .before .before .pre .1 .1 .1 .1 .1) (c .before .before .pair-all .ensures)
+    let pair-all = c .before .before .pair-all in
+    let enum-told2 = c .before .before .before .before .enum-told2 in
+    let at-search-all = c .before .before .before .before .before .before .before .before .before in
+    let search-all = at-search-all .search-all in
+    let enum-told = at-search-all .before .before .enum-told in
+    let start = at-search-all .before .before .before .before .before .before .before in
+    let args = start .args in
+    let pre = start .pre in
+    let p = probs (args .sat) (args .dissat) in
+    let q = policyAt (args .pol .now) (args .r) in
+    let again = againIn (args .context) q p in
+    stage-done (args .context) p again (pre .1 .0) (enum-told .given .1) (args .asks) (args .n)
+    (take (args .k) (args .pairings)) (search-all .ensures) (enum-told2 .given .1) (omega (arith, long, pre .1 .1 .0))
+    (pre .1 .1 .1 .1 .1) (pair-all .ensures)
 
-thresh-body-int-to-float-ratio : (t : ℕ) → thresh-body-lts.Need-int-to-float-ratio (
+-- ---- thresh_body
+
+abbrev thresh-body-calls : ℕ → thresh-body-lts.Claims
+thresh-body-calls t = (
   child-dissat-reads.Asked,
   child-dissat-reads.Learnt,
   all-bests-below t,
@@ -2396,602 +2074,358 @@ thresh-body-int-to-float-ratio : (t : ℕ) → thresh-body-lts.Need-int-to-float
   multi.Post,
   folded-below t,
   folded.Post,
-) (thresh-body-at t) thresh-body.Post
+)
+
+thresh-body-int-to-float-ratio : (t : ℕ) →
+    thresh-body-lts.Need-int-to-float-ratio (thresh-body-calls t) (thresh-body-at t) thresh-body.Post
 thresh-body-int-to-float-ratio t c = search needs
 
-thresh-body-cast-ratio : (t : ℕ) → thresh-body-lts.Need-cast-ratio (
-  child-dissat-reads.Asked,
-  child-dissat-reads.Learnt,
-  all-bests-below t,
-  all-bests.Post,
-  empty-reads.Asked,
-  empty-reads.Learnt,
-  most-gaining-reads.Asked,
-  most-gaining-reads.Learnt,
-  arrange-reads.Asked,
-  arrange-reads.Learnt,
-  thresh-made-reads.Asked,
-  thresh-made-reads.Learnt,
-  wrapped-if-made-below t,
-  wrapped-if-made.Post,
-  multi-below t,
-  multi.Post,
-  folded-below t,
-  folded.Post,
-) (thresh-body-at t) thresh-body.Post
-thresh-body-cast-ratio t c = omega (arith, going-small (c .before .before .before .pre .1 .0) (c .before .before .before .pre .1 .1) .few)
+thresh-body-cast-ratio : (t : ℕ) → thresh-body-lts.Need-cast-ratio (thresh-body-calls t) (thresh-body-at t) thresh-body.Post
+thresh-body-cast-ratio t c =
+    let pre = c .before .before .before .pre in
+    omega (arith, going-small (pre .1 .0) (pre .1 .1) .few)
 
-thresh-body-int-to-float-ratio-2 : (t : ℕ) → thresh-body-lts.Need-int-to-float-ratio-2 (
-  child-dissat-reads.Asked,
-  child-dissat-reads.Learnt,
-  all-bests-below t,
-  all-bests.Post,
-  empty-reads.Asked,
-  empty-reads.Learnt,
-  most-gaining-reads.Asked,
-  most-gaining-reads.Learnt,
-  arrange-reads.Asked,
-  arrange-reads.Learnt,
-  thresh-made-reads.Asked,
-  thresh-made-reads.Learnt,
-  wrapped-if-made-below t,
-  wrapped-if-made.Post,
-  multi-below t,
-  multi.Post,
-  folded-below t,
-  folded.Post,
-) (thresh-body-at t) thresh-body.Post
+thresh-body-int-to-float-ratio-2 : (t : ℕ) →
+    thresh-body-lts.Need-int-to-float-ratio-2 (thresh-body-calls t) (thresh-body-at t) thresh-body.Post
 thresh-body-int-to-float-ratio-2 t c = search needs
 
-thresh-body-child-dissat-requires : (t : ℕ) → thresh-body-lts.Need-child-dissat-requires (
-  child-dissat-reads.Asked,
-  child-dissat-reads.Learnt,
-  all-bests-below t,
-  all-bests.Post,
-  empty-reads.Asked,
-  empty-reads.Learnt,
-  most-gaining-reads.Asked,
-  most-gaining-reads.Learnt,
-  arrange-reads.Asked,
-  arrange-reads.Learnt,
-  thresh-made-reads.Asked,
-  thresh-made-reads.Learnt,
-  wrapped-if-made-below t,
-  wrapped-if-made.Post,
-  multi-below t,
-  multi.Post,
-  folded-below t,
-  folded.Post,
-) (thresh-body-at t) thresh-body.Post
+thresh-body-child-dissat-requires : (t : ℕ) →
+    thresh-body-lts.Need-child-dissat-requires (thresh-body-calls t) (thresh-body-at t) thresh-body.Post
 thresh-body-child-dissat-requires t c κs = tt
 
-thresh-body-all-bests-requires : (t : ℕ) → thresh-body-lts.Need-all-bests-requires (
-  child-dissat-reads.Asked,
-  child-dissat-reads.Learnt,
-  all-bests-below t,
-  all-bests.Post,
-  empty-reads.Asked,
-  empty-reads.Learnt,
-  most-gaining-reads.Asked,
-  most-gaining-reads.Learnt,
-  arrange-reads.Asked,
-  arrange-reads.Learnt,
-  thresh-made-reads.Asked,
-  thresh-made-reads.Learnt,
-  wrapped-if-made-below t,
-  wrapped-if-made.Post,
-  multi-below t,
-  multi.Post,
-  folded-below t,
-  folded.Post,
-) (thresh-body-at t) thresh-body.Post
-thresh-body-all-bests-requires t c κs = (falls-to (c .before .before .before .before .before .before .args .pol .now) (c .before .before .before .before .before .before .args .r) (c .before .before .before .before .before .before .args .dissat) 13 14 (omega arith) (c .before .before .before .before .before .before .pre .0), (going-more (c .before .before .before .before .before .before .pre .1 .0), (c .before .before .before .before .before .before .pre .1 .1 .isThresh, c .before .before .before .before .before .before .pre .1 .1 .isN)))
+thresh-body-all-bests-requires : (t : ℕ) →
+    thresh-body-lts.Need-all-bests-requires (thresh-body-calls t) (thresh-body-at t) thresh-body.Post
+thresh-body-all-bests-requires t c κs =
+    let pre = c .before .before .before .before .before .before .pre in
+    (below (omega arith) (pre .0), (going-more (pre .1 .0), (pre .1 .1 .isThresh, pre .1 .1 .isN)))
 
-thresh-body-enum-known-end : (t : ℕ) → thresh-body-lts.Need-enum-known-end (
-  child-dissat-reads.Asked,
-  child-dissat-reads.Learnt,
-  all-bests-below t,
-  all-bests.Post,
-  empty-reads.Asked,
-  empty-reads.Learnt,
-  most-gaining-reads.Asked,
-  most-gaining-reads.Learnt,
-  arrange-reads.Asked,
-  arrange-reads.Learnt,
-  thresh-made-reads.Asked,
-  thresh-made-reads.Learnt,
-  wrapped-if-made-below t,
-  wrapped-if-made.Post,
-  multi-below t,
-  multi.Post,
-  folded-below t,
-  folded.Post,
-) (thresh-body-at t) thresh-body.Post
+thresh-body-enum-known-end : (t : ℕ) →
+    thresh-body-lts.Need-enum-known-end (thresh-body-calls t) (thresh-body-at t) thresh-body.Post
 thresh-body-enum-known-end t c = search needs
 
-thresh-body-empty-requires : (t : ℕ) → thresh-body-lts.Need-empty-requires (
-  child-dissat-reads.Asked,
-  child-dissat-reads.Learnt,
-  all-bests-below t,
-  all-bests.Post,
-  empty-reads.Asked,
-  empty-reads.Learnt,
-  most-gaining-reads.Asked,
-  most-gaining-reads.Learnt,
-  arrange-reads.Asked,
-  arrange-reads.Learnt,
-  thresh-made-reads.Asked,
-  thresh-made-reads.Learnt,
-  wrapped-if-made-below t,
-  wrapped-if-made.Post,
-  multi-below t,
-  multi.Post,
-  folded-below t,
-  folded.Post,
-) (thresh-body-at t) thresh-body.Post
+thresh-body-empty-requires : (t : ℕ) →
+    thresh-body-lts.Need-empty-requires (thresh-body-calls t) (thresh-body-at t) thresh-body.Post
 thresh-body-empty-requires t c κs = tt
 
-thresh-body-same-length : (t : ℕ) → thresh-body-lts.Need-same-length (
-  child-dissat-reads.Asked,
-  child-dissat-reads.Learnt,
-  all-bests-below t,
-  all-bests.Post,
-  empty-reads.Asked,
-  empty-reads.Learnt,
-  most-gaining-reads.Asked,
-  most-gaining-reads.Learnt,
-  arrange-reads.Asked,
-  arrange-reads.Learnt,
-  thresh-made-reads.Asked,
-  thresh-made-reads.Learnt,
-  wrapped-if-made-below t,
-  wrapped-if-made.Post,
-  multi-below t,
-  multi.Post,
-  folded-below t,
-  folded.Post,
-) (thresh-body-at t) thresh-body.Post
-thresh-body-same-length t c = ready-long (c .before .before .before .before .before .before .before .before .before .before .before .before .before .before .before .before .pre .1 .0 .ready) (c .before .before .before .before .before .before .before .before .before .all-bests .ensures .ready)
+thresh-body-same-length : (t : ℕ) → thresh-body-lts.Need-same-length (thresh-body-calls t) (thresh-body-at t) thresh-body.Post
+thresh-body-same-length t c =
+    let at-all-bests = c .before .before .before .before .before .before .before .before .before in
+    let all-bests = at-all-bests .all-bests in
+    let pre = at-all-bests .before .before .before .before .before .before .before .pre in
+    ready-long (pre .1 .0 .ready) (all-bests .ensures .ready)
 
-thresh-body-returns : (t : ℕ) → thresh-body-lts.Need-returns (
-  child-dissat-reads.Asked,
-  child-dissat-reads.Learnt,
-  all-bests-below t,
-  all-bests.Post,
-  empty-reads.Asked,
-  empty-reads.Learnt,
-  most-gaining-reads.Asked,
-  most-gaining-reads.Learnt,
-  arrange-reads.Asked,
-  arrange-reads.Learnt,
-  thresh-made-reads.Asked,
-  thresh-made-reads.Learnt,
-  wrapped-if-made-below t,
-  wrapped-if-made.Post,
-  multi-below t,
-  multi.Post,
-  folded-below t,
-  folded.Post,
-) (thresh-body-at t) thresh-body.Post
-thresh-body-returns t c = thresh-no (c .before .before .before .before .before .before .before .before .before .before .before .before .before .before .before .before .args .context) (c .before .before .before .before .before .before .before .before .before .before .before .before .before .before .before .before .args .pol .now) (c .before .before .before .before .before .before .before .before .before .before .before .before .before .before .before .before .args .r) (c .before .before .before .before .before .before .before .before .before .before .before .before .before .before .before .before .args .sat) (c .before .before .before .before .before .before .before .before .before .before .before .before .before .before .before .before .args .dissat) (c .before .before .before .before .before .before .before .before .before .before .before .before .before .before .before .before .pre .1 .1) (c .before .before .before .before .before .before .before .before .before .before .before .child-dissat .ensures) (c .before .before .before .before .before .before .before .before .before .all-bests .ensures) (c .before .before .before .end .given .1) (c .before .empty .ensures)
+thresh-body-returns : (t : ℕ) → thresh-body-lts.Need-returns (thresh-body-calls t) (thresh-body-at t) thresh-body.Post
+thresh-body-returns t c =
+    let empty = c .before .empty in
+    let end = c .before .before .before .end in
+    let at-all-bests = c .before .before .before .before .before .before .before .before .before in
+    let all-bests = at-all-bests .all-bests in
+    let child-dissat = at-all-bests .before .before .child-dissat in
+    let start = at-all-bests .before .before .before .before .before .before .before in
+    let args = start .args in
+    let pre = start .pre in
+    thresh-no (args .context) (args .pol .now) (args .r) (args .sat) (args .dissat) (pre .1 .1) (child-dissat .ensures)
+    (all-bests .ensures) (end .given .1) (empty .ensures)
 
-thresh-body-enum-told : (t : ℕ) → thresh-body-lts.Need-enum-told (
-  child-dissat-reads.Asked,
-  child-dissat-reads.Learnt,
-  all-bests-below t,
-  all-bests.Post,
-  empty-reads.Asked,
-  empty-reads.Learnt,
-  most-gaining-reads.Asked,
-  most-gaining-reads.Learnt,
-  arrange-reads.Asked,
-  arrange-reads.Learnt,
-  thresh-made-reads.Asked,
-  thresh-made-reads.Learnt,
-  wrapped-if-made-below t,
-  wrapped-if-made.Post,
-  multi-below t,
-  multi.Post,
-  folded-below t,
-  folded.Post,
-) (thresh-body-at t) thresh-body.Post
+thresh-body-enum-told : (t : ℕ) → thresh-body-lts.Need-enum-told (thresh-body-calls t) (thresh-body-at t) thresh-body.Post
 thresh-body-enum-told t c = search needs
 
-thresh-body-most-gaining-requires : (t : ℕ) → thresh-body-lts.Need-most-gaining-requires (
-  child-dissat-reads.Asked,
-  child-dissat-reads.Learnt,
-  all-bests-below t,
-  all-bests.Post,
-  empty-reads.Asked,
-  empty-reads.Learnt,
-  most-gaining-reads.Asked,
-  most-gaining-reads.Learnt,
-  arrange-reads.Asked,
-  arrange-reads.Learnt,
-  thresh-made-reads.Asked,
-  thresh-made-reads.Learnt,
-  wrapped-if-made-below t,
-  wrapped-if-made.Post,
-  multi-below t,
-  multi.Post,
-  folded-below t,
-  folded.Post,
-) (thresh-body-at t) thresh-body.Post
-thresh-body-most-gaining-requires t c κs = gaining-asks (c .before .before .before .before .before .before .before .before .before .before .before .before .before .before .pre .1 .0) (c .before .before .before .before .before .before .before .before .before .before .before .before .before .before .pre .1 .1) (c .before .before .before .before .before .before .before .all-bests .ensures) (c .before .enum-told .given .1)
+thresh-body-most-gaining-requires : (t : ℕ) →
+    thresh-body-lts.Need-most-gaining-requires (thresh-body-calls t) (thresh-body-at t) thresh-body.Post
+thresh-body-most-gaining-requires t c κs =
+    let enum-told = c .before .enum-told in
+    let at-all-bests = c .before .before .before .before .before .before .before in
+    let all-bests = at-all-bests .all-bests in
+    let pre = at-all-bests .before .before .before .before .before .before .before .pre in
+    gaining-asks (pre .1 .0) (pre .1 .1) (all-bests .ensures) (enum-told .given .1)
 
-thresh-body-arrange-requires : (t : ℕ) → thresh-body-lts.Need-arrange-requires (
-  child-dissat-reads.Asked,
-  child-dissat-reads.Learnt,
-  all-bests-below t,
-  all-bests.Post,
-  empty-reads.Asked,
-  empty-reads.Learnt,
-  most-gaining-reads.Asked,
-  most-gaining-reads.Learnt,
-  arrange-reads.Asked,
-  arrange-reads.Learnt,
-  thresh-made-reads.Asked,
-  thresh-made-reads.Learnt,
-  wrapped-if-made-below t,
-  wrapped-if-made.Post,
-  multi-below t,
-  multi.Post,
-  folded-below t,
-  folded.Post,
-) (thresh-body-at t) thresh-body.Post
-thresh-body-arrange-requires t c κs = (going-small (c .before .before .before .before .before .before .before .before .before .before .before .before .before .before .before .pre .1 .0) (c .before .before .before .before .before .before .before .before .before .before .before .before .before .before .before .pre .1 .1) .few, gaining-less (going-small (c .before .before .before .before .before .before .before .before .before .before .before .before .before .before .before .pre .1 .0) (c .before .before .before .before .before .before .before .before .before .before .before .before .before .before .before .pre .1 .1)) (c .most-gaining .ensures))
+thresh-body-arrange-requires : (t : ℕ) →
+    thresh-body-lts.Need-arrange-requires (thresh-body-calls t) (thresh-body-at t) thresh-body.Post
+thresh-body-arrange-requires t c κs =
+    let earlier = c .before .before .before .before .before .before .before .before .before .before .before .before in
+    let pre = earlier .before .before .before .pre in
+    (going-small (pre .1 .0) (pre .1 .1) .few, gaining-less (going-small (pre .1 .0) (pre .1 .1)) (c .most-gaining .ensures))
 
-thresh-body-cast-thresh-made : (t : ℕ) → thresh-body-lts.Need-cast-thresh-made (
-  child-dissat-reads.Asked,
-  child-dissat-reads.Learnt,
-  all-bests-below t,
-  all-bests.Post,
-  empty-reads.Asked,
-  empty-reads.Learnt,
-  most-gaining-reads.Asked,
-  most-gaining-reads.Learnt,
-  arrange-reads.Asked,
-  arrange-reads.Learnt,
-  thresh-made-reads.Asked,
-  thresh-made-reads.Learnt,
-  wrapped-if-made-below t,
-  wrapped-if-made.Post,
-  multi-below t,
-  multi.Post,
-  folded-below t,
-  folded.Post,
-) (thresh-body-at t) thresh-body.Post
-thresh-body-cast-thresh-made t c = omega (arith, going-small (c .before .before .before .before .before .before .before .before .before .before .before .before .before .before .before .before .before .pre .1 .0) (c .before .before .before .before .before .before .before .before .before .before .before .before .before .before .before .before .before .pre .1 .1) .stored)
+thresh-body-cast-thresh-made : (t : ℕ) →
+    thresh-body-lts.Need-cast-thresh-made (thresh-body-calls t) (thresh-body-at t) thresh-body.Post
+thresh-body-cast-thresh-made t c =
+    let earlier = c .before .before .before .before .before .before .before .before .before .before .before .before in
+    let pre = earlier .before .before .before .before .before .pre in
+    omega (arith, going-small (pre .1 .0) (pre .1 .1) .stored)
 
-thresh-body-cast-thresh-made-2 : (t : ℕ) → thresh-body-lts.Need-cast-thresh-made-2 (
-  child-dissat-reads.Asked,
-  child-dissat-reads.Learnt,
-  all-bests-below t,
-  all-bests.Post,
-  empty-reads.Asked,
-  empty-reads.Learnt,
-  most-gaining-reads.Asked,
-  most-gaining-reads.Learnt,
-  arrange-reads.Asked,
-  arrange-reads.Learnt,
-  thresh-made-reads.Asked,
-  thresh-made-reads.Learnt,
-  wrapped-if-made-below t,
-  wrapped-if-made.Post,
-  multi-below t,
-  multi.Post,
-  folded-below t,
-  folded.Post,
-) (thresh-body-at t) thresh-body.Post
-thresh-body-cast-thresh-made-2 t c = omega (arith, going-small (c .before .before .before .before .before .before .before .before .before .before .before .before .before .before .before .before .before .pre .1 .0) (c .before .before .before .before .before .before .before .before .before .before .before .before .before .before .before .before .before .pre .1 .1) .few)
+thresh-body-cast-thresh-made-2 : (t : ℕ) →
+    thresh-body-lts.Need-cast-thresh-made-2 (thresh-body-calls t) (thresh-body-at t) thresh-body.Post
+thresh-body-cast-thresh-made-2 t c =
+    let earlier = c .before .before .before .before .before .before .before .before .before .before .before .before in
+    let pre = earlier .before .before .before .before .before .pre in
+    omega (arith, going-small (pre .1 .0) (pre .1 .1) .few)
 
-thresh-body-thresh-made-requires : (t : ℕ) → thresh-body-lts.Need-thresh-made-requires (
-  child-dissat-reads.Asked,
-  child-dissat-reads.Learnt,
-  all-bests-below t,
-  all-bests.Post,
-  empty-reads.Asked,
-  empty-reads.Learnt,
-  most-gaining-reads.Asked,
-  most-gaining-reads.Learnt,
-  arrange-reads.Asked,
-  arrange-reads.Learnt,
-  thresh-made-reads.Asked,
-  thresh-made-reads.Learnt,
-  wrapped-if-made-below t,
-  wrapped-if-made.Post,
-  multi-below t,
-  multi.Post,
-  folded-below t,
-  folded.Post,
-) (thresh-body-at t) thresh-body.Post
-thresh-body-thresh-made-requires t c κs = made-asks (c .before .before .before .before .before .before .before .before .before .before .before .before .before .before .before .before .before .pre .1 .0) (c .before .before .before .before .before .before .before .before .before .before .before .before .before .before .before .before .before .pre .1 .1) (c .before .before .before .before .before .before .before .before .before .before .all-bests .ensures) (c .before .before .before .before .enum-told .given .1) (c .before .arrange .ensures)
+thresh-body-thresh-made-requires : (t : ℕ) →
+    thresh-body-lts.Need-thresh-made-requires (thresh-body-calls t) (thresh-body-at t) thresh-body.Post
+thresh-body-thresh-made-requires t c κs =
+    let arrange = c .before .arrange in
+    let enum-told = c .before .before .before .before .enum-told in
+    let at-all-bests = c .before .before .before .before .before .before .before .before .before .before in
+    let all-bests = at-all-bests .all-bests in
+    let pre = at-all-bests .before .before .before .before .before .before .before .pre in
+    made-asks (pre .1 .0) (pre .1 .1) (all-bests .ensures) (enum-told .given .1) (arrange .ensures)
 
-thresh-body-empty-requires-2 : (t : ℕ) → thresh-body-lts.Need-empty-requires-2 (
-  child-dissat-reads.Asked,
-  child-dissat-reads.Learnt,
-  all-bests-below t,
-  all-bests.Post,
-  empty-reads.Asked,
-  empty-reads.Learnt,
-  most-gaining-reads.Asked,
-  most-gaining-reads.Learnt,
-  arrange-reads.Asked,
-  arrange-reads.Learnt,
-  thresh-made-reads.Asked,
-  thresh-made-reads.Learnt,
-  wrapped-if-made-below t,
-  wrapped-if-made.Post,
-  multi-below t,
-  multi.Post,
-  folded-below t,
-  folded.Post,
-) (thresh-body-at t) thresh-body.Post
+thresh-body-empty-requires-2 : (t : ℕ) →
+    thresh-body-lts.Need-empty-requires-2 (thresh-body-calls t) (thresh-body-at t) thresh-body.Post
 thresh-body-empty-requires-2 t c κs = tt
 
-thresh-body-wrapped-if-made-requires : (t : ℕ) → thresh-body-lts.Need-wrapped-if-made-requires (
-  child-dissat-reads.Asked,
-  child-dissat-reads.Learnt,
-  all-bests-below t,
-  all-bests.Post,
-  empty-reads.Asked,
-  empty-reads.Learnt,
-  most-gaining-reads.Asked,
-  most-gaining-reads.Learnt,
-  arrange-reads.Asked,
-  arrange-reads.Learnt,
-  thresh-made-reads.Asked,
-  thresh-made-reads.Learnt,
-  wrapped-if-made-below t,
-  wrapped-if-made.Post,
-  multi-below t,
-  multi.Post,
-  folded-below t,
-  folded.Post,
-) (thresh-body-at t) thresh-body.Post
-thresh-body-wrapped-if-made-requires t c κs = (falls-to (c .before .before .before .before .before .before .before .before .before .before .before .before .before .before .before .before .before .before .before .before .before .before .args .pol .now) (c .before .before .before .before .before .before .before .before .before .before .before .before .before .before .before .before .before .before .before .before .before .before .args .r) (c .before .before .before .before .before .before .before .before .before .before .before .before .before .before .before .before .before .before .before .before .before .before .args .dissat) 9 14 (omega arith) (c .before .before .before .before .before .before .before .before .before .before .before .before .before .before .before .before .before .before .before .before .before .before .pre .0), (made-doing (c .before .before .before .before .before .before .before .before .before .before .before .before .before .before .before .before .before .before .before .before .before .before .pre .1 .0) (c .before .before .before .before .before .before .before .before .before .before .before .before .before .before .before .before .before .before .before .before .before .before .pre .1 .1) (c .before .before .before .before .before .before .before .before .before .before .before .before .before .before .before .all-bests .ensures) (c .before .before .before .before .before .before .before .before .before .enum-told .given .1) (c .before .before .before .before .thresh-made .ensures) (c .empty2 .ensures), thresh-offers (c .before .before .before .before .thresh-made .ensures)))
+thresh-body-wrapped-if-made-requires : (t : ℕ) →
+    thresh-body-lts.Need-wrapped-if-made-requires (thresh-body-calls t) (thresh-body-at t) thresh-body.Post
+thresh-body-wrapped-if-made-requires t c κs =
+    let thresh-made = c .before .before .before .before .thresh-made in
+    let at-enum-told = c .before .before .before .before .before .before .before .before .before in
+    let enum-told = at-enum-told .enum-told in
+    let at-all-bests = at-enum-told .before .before .before .before .before .before in
+    let all-bests = at-all-bests .all-bests in
+    let pre = at-all-bests .before .before .before .before .before .before .before .pre in (
+      below (omega arith) (pre .0),
+      (
+        made-doing (pre .1 .0) (pre .1 .1) (all-bests .ensures) (enum-told .given .1) (thresh-made .ensures)
+            (c .empty2 .ensures),
+        thresh-offers (thresh-made .ensures),
+      ),
+    )
 
-thresh-body-multi-requires : (t : ℕ) → thresh-body-lts.Need-multi-requires (
-  child-dissat-reads.Asked,
-  child-dissat-reads.Learnt,
-  all-bests-below t,
-  all-bests.Post,
-  empty-reads.Asked,
-  empty-reads.Learnt,
-  most-gaining-reads.Asked,
-  most-gaining-reads.Learnt,
-  arrange-reads.Asked,
-  arrange-reads.Learnt,
-  thresh-made-reads.Asked,
-  thresh-made-reads.Learnt,
-  wrapped-if-made-below t,
-  wrapped-if-made.Post,
-  multi-below t,
-  multi.Post,
-  folded-below t,
-  folded.Post,
-) (thresh-body-at t) thresh-body.Post
-thresh-body-multi-requires t c κs = (falls-to (c .before .before .before .before .before .before .before .before .before .before .before .before .before .before .before .before .before .before .before .before .before .before .before .before .before .before .args .pol .now) (c .before .before .before .before .before .before .before .before .before .before .before .before .before .before .before .before .before .before .before .before .before .before .before .before .before .before .args .r) (c .before .before .before .before .before .before .before .before .before .before .before .before .before .before .before .before .before .before .before .before .before .before .before .before .before .before .args .dissat) 13 14 (omega arith) (c .before .before .before .before .before .before .before .before .before .before .before .before .before .before .before .before .before .before .before .before .before .before .before .before .before .before .pre .0), (doing-next (made-doing (c .before .before .before .before .before .before .before .before .before .before .before .before .before .before .before .before .before .before .before .before .before .before .before .before .before .before .pre .1 .0) (c .before .before .before .before .before .before .before .before .before .before .before .before .before .before .before .before .before .before .before .before .before .before .before .before .before .before .pre .1 .1) (c .before .before .before .before .before .before .before .before .before .before .before .before .before .before .before .before .before .before .before .all-bests .ensures) (c .before .before .before .before .before .before .before .before .before .before .before .before .before .enum-told .given .1) (c .before .before .before .before .before .before .before .before .thresh-made .ensures) (c .before .before .before .before .empty2 .ensures)) _ (c .before .before .before .wrapped-if-made .ensures), (c .before .before .before .before .before .before .before .before .before .before .before .before .before .before .before .before .before .before .before .before .before .before .before .before .before .before .pre .1 .1)))
+thresh-body-multi-requires : (t : ℕ) →
+    thresh-body-lts.Need-multi-requires (thresh-body-calls t) (thresh-body-at t) thresh-body.Post
+thresh-body-multi-requires t c κs =
+    let wrapped-if-made = c .before .before .before .wrapped-if-made in
+    let empty2 = c .before .before .before .before .empty2 in
+    let at-thresh-made = c .before .before .before .before .before .before .before .before in
+    let thresh-made = at-thresh-made .thresh-made in
+    let enum-told = at-thresh-made .before .before .before .before .before .enum-told in
+    let at-all-bests = at-thresh-made .before .before .before .before .before .before .before .before .before .before .before in
+    let all-bests = at-all-bests .all-bests in
+    let pre = at-all-bests .before .before .before .before .before .before .before .pre in (
+      below (omega arith) (pre .0),
+      (
+        doing-next
+            (made-doing (pre .1 .0) (pre .1 .1) (all-bests .ensures) (enum-told .given .1) (thresh-made .ensures) (empty2 .ensures))
+            _ (wrapped-if-made .ensures),
+        pre .1 .1,
+      ),
+    )
 
-thresh-body-folded-requires : (t : ℕ) → thresh-body-lts.Need-folded-requires (
-  child-dissat-reads.Asked,
-  child-dissat-reads.Learnt,
-  all-bests-below t,
-  all-bests.Post,
-  empty-reads.Asked,
-  empty-reads.Learnt,
-  most-gaining-reads.Asked,
-  most-gaining-reads.Learnt,
-  arrange-reads.Asked,
-  arrange-reads.Learnt,
-  thresh-made-reads.Asked,
-  thresh-made-reads.Learnt,
-  wrapped-if-made-below t,
-  wrapped-if-made.Post,
-  multi-below t,
-  multi.Post,
-  folded-below t,
-  folded.Post,
-) (thresh-body-at t) thresh-body.Post
-thresh-body-folded-requires t c κs = (falls-to (c .before .before .before .before .before .before .before .before .before .before .before .before .before .before .before .before .before .before .before .before .before .before .before .before .before .before .before .before .before .before .args .pol .now) (c .before .before .before .before .before .before .before .before .before .before .before .before .before .before .before .before .before .before .before .before .before .before .before .before .before .before .before .before .before .before .args .r) (c .before .before .before .before .before .before .before .before .before .before .before .before .before .before .before .before .before .before .before .before .before .before .before .before .before .before .before .before .before .before .args .dissat) 13 14 (omega arith) (c .before .before .before .before .before .before .before .before .before .before .before .before .before .before .before .before .before .before .before .before .before .before .before .before .before .before .before .before .before .before .pre .0), (doing-next (doing-next (made-doing (c .before .before .before .before .before .before .before .before .before .before .before .before .before .before .before .before .before .before .before .before .before .before .before .before .before .before .before .before .before .before .pre .1 .0) (c .before .before .before .before .before .before .before .before .before .before .before .before .before .before .before .before .before .before .before .before .before .before .before .before .before .before .before .before .before .before .pre .1 .1) (c .before .before .before .before .before .before .before .before .before .before .before .before .before .before .before .before .before .before .before .before .before .before .before .all-bests .ensures) (c .before .before .before .before .before .before .before .before .before .before .before .before .before .before .before .before .before .enum-told .given .1) (c .before .before .before .before .before .before .before .before .before .before .before .before .thresh-made .ensures) (c .before .before .before .before .before .before .before .before .empty2 .ensures)) _ (c .before .before .before .before .before .before .before .wrapped-if-made .ensures)) _ (c .before .before .before .multi .ensures), (c .before .before .before .before .before .before .before .before .before .before .before .before .before .before .before .before .before .before .before .before .before .before .before .before .before .before .before .before .before .before .pre .1 .1)))
+thresh-body-folded-requires : (t : ℕ) →
+    thresh-body-lts.Need-folded-requires (thresh-body-calls t) (thresh-body-at t) thresh-body.Post
+thresh-body-folded-requires t c κs =
+    let multi = c .before .before .before .multi in
+    let at-wrapped-if-made = c .before .before .before .before .before .before .before in
+    let wrapped-if-made = at-wrapped-if-made .wrapped-if-made in
+    let empty2 = at-wrapped-if-made .before .empty2 in
+    let thresh-made = at-wrapped-if-made .before .before .before .before .before .thresh-made in
+    let at-enum-told = at-wrapped-if-made .before .before .before .before .before .before .before .before .before .before in
+    let enum-told = at-enum-told .enum-told in
+    let at-all-bests = at-enum-told .before .before .before .before .before .before in
+    let all-bests = at-all-bests .all-bests in
+    let pre = at-all-bests .before .before .before .before .before .before .before .pre in (
+      below (omega arith) (pre .0),
+      (
+        doing-next
+            (doing-next
+            (made-doing (pre .1 .0) (pre .1 .1) (all-bests .ensures) (enum-told .given .1) (thresh-made .ensures) (empty2 .ensures))
+            _ (wrapped-if-made .ensures)) _ (multi .ensures),
+        pre .1 .1,
+      ),
+    )
 
-thresh-body-same-length-2 : (t : ℕ) → thresh-body-lts.Need-same-length-2 (
-  child-dissat-reads.Asked,
-  child-dissat-reads.Learnt,
-  all-bests-below t,
-  all-bests.Post,
-  empty-reads.Asked,
-  empty-reads.Learnt,
-  most-gaining-reads.Asked,
-  most-gaining-reads.Learnt,
-  arrange-reads.Asked,
-  arrange-reads.Learnt,
-  thresh-made-reads.Asked,
-  thresh-made-reads.Learnt,
-  wrapped-if-made-below t,
-  wrapped-if-made.Post,
-  multi-below t,
-  multi.Post,
-  folded-below t,
-  folded.Post,
-) (thresh-body-at t) thresh-body.Post
-thresh-body-same-length-2 t c = ready-long (c .before .before .before .before .before .before .before .before .before .before .before .before .before .before .before .before .before .before .before .before .before .before .before .before .before .before .before .before .before .before .before .before .before .pre .1 .0 .ready) (c .before .before .folded .ensures .ready)
+thresh-body-same-length-2 : (t : ℕ) →
+    thresh-body-lts.Need-same-length-2 (thresh-body-calls t) (thresh-body-at t) thresh-body.Post
+thresh-body-same-length-2 t c =
+    let folded = c .before .before .folded in
+    let earlier = c .before .before .before .before .before .before .before .before .before .before .before .before in
+    let earlier′ = earlier .before .before .before .before .before .before .before .before .before .before .before .before in
+    let pre = earlier′ .before .before .before .before .before .before .before .before .before .pre in
+    ready-long (pre .1 .0 .ready) (folded .ensures .ready)
 
-thresh-body-returns-2 : (t : ℕ) → thresh-body-lts.Need-returns-2 (
-  child-dissat-reads.Asked,
-  child-dissat-reads.Learnt,
-  all-bests-below t,
-  all-bests.Post,
-  empty-reads.Asked,
-  empty-reads.Learnt,
-  most-gaining-reads.Asked,
-  most-gaining-reads.Learnt,
-  arrange-reads.Asked,
-  arrange-reads.Learnt,
-  thresh-made-reads.Asked,
-  thresh-made-reads.Learnt,
-  wrapped-if-made-below t,
-  wrapped-if-made.Post,
-  multi-below t,
-  multi.Post,
-  folded-below t,
-  folded.Post,
-) (thresh-body-at t) thresh-body.Post
-thresh-body-returns-2 t c = body-thresh (c .before .before .before .before .before .before .before .before .before .before .before .before .before .before .before .before .before .before .before .before .before .before .before .before .before .before .before .before .before .before .before .before .before .args .context) (c .before .before .before .before .before .before .before .before .before .before .before .before .before .before .before .before .before .before .before .before .before .before .before .before .before .before .before .before .before .before .before .before .before .args .pol .now) (c .before .before .before .before .before .before .before .before .before .before .before .before .before .before .before .before .before .before .before .before .before .before .before .before .before .before .before .before .before .before .before .before .before .args .r) (c .before .before .before .before .before .before .before .before .before .before .before .before .before .before .before .before .before .before .before .before .before .before .before .before .before .before .before .before .before .before .before .before .before .args .sat) (c .before .before .before .before .before .before .before .before .before .before .before .before .before .before .before .before .before .before .before .before .before .before .before .before .before .before .before .before .before .before .before .before .before .args .dissat) (c .before .before .before .before .before .before .before .before .before .before .before .before .before .before .before .before .before .before .before .before .before .before .before .before .before .before .before .before .before .before .before .before .before .pre .1 .1) refl (c .before .before .before .before .before .before .before .before .before .before .before .before .before .before .before .before .before .before .before .before .before .before .before .before .before .before .before .before .child-dissat .ensures) (c .before .before .before .before .before .before .before .before .before .before .before .before .before .before .before .before .before .before .before .before .before .before .before .before .before .before .all-bests .ensures) (c .before .before .before .before .before .before .before .before .before .before .before .before .before .before .before .before .before .before .before .before .enum-told .given .1) (c .before .before .before .before .before .before .before .before .before .before .before .before .before .before .before .before .before .before .most-gaining .ensures) (c .before .before .before .before .before .before .before .before .before .before .before .before .before .before .before .before .before .arrange .ensures) (c .before .before .before .before .before .before .before .before .before .before .before .before .before .before .before .thresh-made .ensures) (c .before .before .before .before .before .before .before .before .before .before .before .empty2 .ensures) (c .before .before .before .before .before .before .before .before .before .before .wrapped-if-made .ensures) (c .before .before .before .before .before .before .multi .ensures) (c .before .before .folded .ensures)
+thresh-body-returns-2 : (t : ℕ) → thresh-body-lts.Need-returns-2 (thresh-body-calls t) (thresh-body-at t) thresh-body.Post
+thresh-body-returns-2 t c =
+    let folded = c .before .before .folded in
+    let at-multi = c .before .before .before .before .before .before in
+    let multi = at-multi .multi in
+    let wrapped-if-made = at-multi .before .before .before .before .wrapped-if-made in
+    let empty2 = at-multi .before .before .before .before .before .empty2 in
+    let at-thresh-made = at-multi .before .before .before .before .before .before .before .before .before in
+    let thresh-made = at-thresh-made .thresh-made in
+    let arrange = at-thresh-made .before .before .arrange in
+    let most-gaining = at-thresh-made .before .before .before .most-gaining in
+    let enum-told = at-thresh-made .before .before .before .before .before .enum-told in
+    let at-all-bests = at-thresh-made .before .before .before .before .before .before .before .before .before .before .before in
+    let all-bests = at-all-bests .all-bests in
+    let child-dissat = at-all-bests .before .before .child-dissat in
+    let start = at-all-bests .before .before .before .before .before .before .before in
+    let args = start .args in
+    let pre = start .pre in
+    body-thresh (args .context) (args .pol .now) (args .r) (args .sat) (args .dissat) (pre .1 .1) refl (child-dissat .ensures)
+    (all-bests .ensures) (enum-told .given .1) (most-gaining .ensures) (arrange .ensures) (thresh-made .ensures)
+    (empty2 .ensures) (wrapped-if-made .ensures) (multi .ensures) (folded .ensures)
 
-wrapped-enum-known-end : (t : ℕ) → wrapped-lts.Need-enum-known-end (
+-- ---- wrapped
+
+abbrev wrapped-calls : ℕ → wrapped-lts.Claims
+wrapped-calls t = (
   insert-closure-reads.Asked,
   insert-closure-reads.Learnt,
   casts-of-below t,
   casts-of.Post,
-) (wrapped-at t) wrapped.Post
+)
+
+wrapped-enum-known-end : (t : ℕ) → wrapped-lts.Need-enum-known-end (wrapped-calls t) (wrapped-at t) wrapped.Post
 wrapped-enum-known-end t c = search needs
 
-wrapped-enum-told : (t : ℕ) → wrapped-lts.Need-enum-told (
-  insert-closure-reads.Asked,
-  insert-closure-reads.Learnt,
-  casts-of-below t,
-  casts-of.Post,
-) (wrapped-at t) wrapped.Post
+wrapped-enum-told : (t : ℕ) → wrapped-lts.Need-enum-told (wrapped-calls t) (wrapped-at t) wrapped.Post
 wrapped-enum-told t c = search needs
 
-wrapped-insert-closure-requires : (t : ℕ) → wrapped-lts.Need-insert-closure-requires (
-  insert-closure-reads.Asked,
-  insert-closure-reads.Learnt,
-  casts-of-below t,
-  casts-of.Post,
-) (wrapped-at t) wrapped.Post
-wrapped-insert-closure-requires t c κs = (c .before .before .before .before .before .before .pre .1 .0 .ready .nodes, (c .before .before .before .before .before .before .pre .1 .0 .table, c .before .before .before .before .before .before .pre .1 .1))
+wrapped-insert-closure-requires : (t : ℕ) →
+    wrapped-lts.Need-insert-closure-requires (wrapped-calls t) (wrapped-at t) wrapped.Post
+wrapped-insert-closure-requires t c κs =
+    let pre = c .before .before .before .before .before .before .pre in
+    (pre .1 .0 .ready .nodes, (pre .1 .0 .table, pre .1 .1))
 
-wrapped-enum-told-2 : (t : ℕ) → wrapped-lts.Need-enum-told-2 (
-  insert-closure-reads.Asked,
-  insert-closure-reads.Learnt,
-  casts-of-below t,
-  casts-of.Post,
-) (wrapped-at t) wrapped.Post
+wrapped-enum-told-2 : (t : ℕ) → wrapped-lts.Need-enum-told-2 (wrapped-calls t) (wrapped-at t) wrapped.Post
 wrapped-enum-told-2 t c = search needs
 
-wrapped-enum-told-3 : (t : ℕ) → wrapped-lts.Need-enum-told-3 (
-  insert-closure-reads.Asked,
-  insert-closure-reads.Learnt,
-  casts-of-below t,
-  casts-of.Post,
-) (wrapped-at t) wrapped.Post
+wrapped-enum-told-3 : (t : ℕ) → wrapped-lts.Need-enum-told-3 (wrapped-calls t) (wrapped-at t) wrapped.Post
 wrapped-enum-told-3 t c = search needs
 
-wrapped-casts-of-requires : (t : ℕ) → wrapped-lts.Need-casts-of-requires (
-  insert-closure-reads.Asked,
-  insert-closure-reads.Learnt,
-  casts-of-below t,
-  casts-of.Post,
-) (wrapped-at t) wrapped.Post
-wrapped-casts-of-requires t c κs = (below (omega arith) (c .before .before .before .before .before .before .before .before .before .before .before .before .pre .0), (wrapped-doing (c .before .before .before .before .before .before .before .before .before .before .before .before .args .context) (c .before .before .before .before .before .before .before .before .before .before .before .before .args .sat) (c .before .before .before .before .before .before .before .before .before .before .before .before .pre .1 .0) (c .before .before .before .before .before .before .before .enum-told .given .1) (c .before .before .before .before .before .insert-closure .ensures), flag-some (c .before .enum-told3 .given .1)))
+wrapped-casts-of-requires : (t : ℕ) → wrapped-lts.Need-casts-of-requires (wrapped-calls t) (wrapped-at t) wrapped.Post
+wrapped-casts-of-requires t c κs =
+    let enum-told3 = c .before .enum-told3 in
+    let insert-closure = c .before .before .before .before .before .insert-closure in
+    let at-enum-told = c .before .before .before .before .before .before .before in
+    let enum-told = at-enum-told .enum-told in
+    let start = at-enum-told .before .before .before .before .before in
+    let args = start .args in
+    let pre = start .pre in (
+      below (omega arith) (pre .0),
+      (
+        wrapped-doing (args .context) (args .sat) (pre .1 .0) (enum-told .given .1) (insert-closure .ensures),
+        flag-some (enum-told3 .given .1),
+      ),
+    )
 
-wrapped-returns : (t : ℕ) → wrapped-lts.Need-returns (
-  insert-closure-reads.Asked,
-  insert-closure-reads.Learnt,
-  casts-of-below t,
-  casts-of.Post,
-) (wrapped-at t) wrapped.Post
-wrapped-returns t c = stops (c .before .before .before .before .before .before .pre .1 .0) _ (c .before .end .given .1)
+wrapped-returns : (t : ℕ) → wrapped-lts.Need-returns (wrapped-calls t) (wrapped-at t) wrapped.Post
+wrapped-returns t c =
+    let end = c .before .end in
+    let pre = c .before .before .before .before .before .before .pre in
+    stops (pre .1 .0) _ (end .given .1)
 
-wrapped-same-length : (t : ℕ) → wrapped-lts.Need-same-length (
-  insert-closure-reads.Asked,
-  insert-closure-reads.Learnt,
-  casts-of-below t,
-  casts-of.Post,
-) (wrapped-at t) wrapped.Post
+wrapped-same-length : (t : ℕ) → wrapped-lts.Need-same-length (wrapped-calls t) (wrapped-at t) wrapped.Post
 wrapped-same-length t c = search needs
 
-wrapped-returns-2 : (t : ℕ) → wrapped-lts.Need-returns-2 (
-  insert-closure-reads.Asked,
-  insert-closure-reads.Learnt,
-  casts-of-below t,
-  casts-of.Post,
-) (wrapped-at t) wrapped.Post
-wrapped-returns-2 t c = wrapped-plain (c .before .before .before .before .before .before .before .before .before .before .before .args .context) (c .before .before .before .before .before .before .before .before .before .before .before .args .sat) (c .before .before .before .before .before .before .before .before .before .before .before .pre .1 .0) (c .before .before .before .before .before .before .enum-told .given .1) (c .before .before .before .before .insert-closure .ensures) (c .enum-told2 .given .1)
+wrapped-returns-2 : (t : ℕ) → wrapped-lts.Need-returns-2 (wrapped-calls t) (wrapped-at t) wrapped.Post
+wrapped-returns-2 t c =
+    let insert-closure = c .before .before .before .before .insert-closure in
+    let at-enum-told = c .before .before .before .before .before .before in
+    let enum-told = at-enum-told .enum-told in
+    let start = at-enum-told .before .before .before .before .before in
+    let args = start .args in
+    let pre = start .pre in
+    wrapped-plain (args .context) (args .sat) (pre .1 .0) (enum-told .given .1) (insert-closure .ensures)
+    (c .enum-told2 .given .1)
 
-wrapped-same-length-2 : (t : ℕ) → wrapped-lts.Need-same-length-2 (
-  insert-closure-reads.Asked,
-  insert-closure-reads.Learnt,
-  casts-of-below t,
-  casts-of.Post,
-) (wrapped-at t) wrapped.Post
+wrapped-same-length-2 : (t : ℕ) → wrapped-lts.Need-same-length-2 (wrapped-calls t) (wrapped-at t) wrapped.Post
 wrapped-same-length-2 t c = search needs
 
-wrapped-returns-3 : (t : ℕ) → wrapped-lts.Need-returns-3 (
-  insert-closure-reads.Asked,
-  insert-closure-reads.Learnt,
-  casts-of-below t,
-  casts-of.Post,
-) (wrapped-at t) wrapped.Post
-wrapped-returns-3 t c = wrapped-casts (c .before .before .before .before .before .before .before .before .before .before .before .before .before .before .before .args .context) (c .before .before .before .before .before .before .before .before .before .before .before .before .before .before .before .args .sat) (c .before .before .before .before .before .before .before .before .before .before .before .before .before .before .before .pre .1 .0) (c .before .before .before .before .before .before .before .before .before .before .enum-told .given .1) (c .before .before .before .before .before .before .before .before .insert-closure .ensures) (c .before .before .before .before .enum-told3 .given .1) (c .before .before .casts-of .ensures)
+wrapped-returns-3 : (t : ℕ) → wrapped-lts.Need-returns-3 (wrapped-calls t) (wrapped-at t) wrapped.Post
+wrapped-returns-3 t c =
+    let casts-of = c .before .before .casts-of in
+    let enum-told3 = c .before .before .before .before .enum-told3 in
+    let at-insert-closure = c .before .before .before .before .before .before .before .before in
+    let insert-closure = at-insert-closure .insert-closure in
+    let enum-told = at-insert-closure .before .before .enum-told in
+    let start = at-insert-closure .before .before .before .before .before .before .before in
+    let args = start .args in
+    let pre = start .pre in
+    wrapped-casts (args .context) (args .sat) (pre .1 .0) (enum-told .given .1) (insert-closure .ensures) (enum-told3 .given .1)
+    (casts-of .ensures)
 
-wrapped-if-made-enum-known-x : (t : ℕ) → wrapped-if-made-lts.Need-enum-known-x (
-  wrapped-below t,
-  wrapped.Post,
-) (wrapped-if-made-at t) wrapped-if-made.Post
+-- ---- wrapped_if_made
+
+abbrev wrapped-if-made-calls : ℕ → wrapped-if-made-lts.Claims
+wrapped-if-made-calls t = (wrapped-below t, wrapped.Post)
+
+wrapped-if-made-enum-known-x : (t : ℕ) →
+    wrapped-if-made-lts.Need-enum-known-x (wrapped-if-made-calls t) (wrapped-if-made-at t) wrapped-if-made.Post
 wrapped-if-made-enum-known-x t c = search needs
 
-wrapped-if-made-wrapped-requires : (t : ℕ) → wrapped-if-made-lts.Need-wrapped-requires (
-  wrapped-below t,
-  wrapped.Post,
-) (wrapped-if-made-at t) wrapped-if-made.Post
-wrapped-if-made-wrapped-requires t c κs = (below (rank-falls (c .before .before .before .before .before .before .args .pol .now) (c .before .before .before .before .before .before .args .r) (c .before .before .before .before .before .before .args .dissat) 8 9 (omega arith)) (c .before .before .before .before .before .before .pre .0), (c .before .before .before .before .before .before .pre .1 .0, c .before .before .before .before .before .before .pre .1 .1 .offers _ (c .before .before .x .given .1)))
+wrapped-if-made-wrapped-requires : (t : ℕ) →
+    wrapped-if-made-lts.Need-wrapped-requires (wrapped-if-made-calls t) (wrapped-if-made-at t) wrapped-if-made.Post
+wrapped-if-made-wrapped-requires t c κs =
+    let x = c .before .before .x in
+    let pre = c .before .before .before .before .before .before .pre in
+    (below (omega arith) (pre .0), (pre .1 .0, pre .1 .1 .offers _ (x .given .1)))
 
-wrapped-if-made-enum-told : (t : ℕ) → wrapped-if-made-lts.Need-enum-told (
-  wrapped-below t,
-  wrapped.Post,
-) (wrapped-if-made-at t) wrapped-if-made.Post
+wrapped-if-made-enum-told : (t : ℕ) →
+    wrapped-if-made-lts.Need-enum-told (wrapped-if-made-calls t) (wrapped-if-made-at t) wrapped-if-made.Post
 wrapped-if-made-enum-told t c = search needs
 
-wrapped-if-made-enum-told-2 : (t : ℕ) → wrapped-if-made-lts.Need-enum-told-2 (
-  wrapped-below t,
-  wrapped.Post,
-) (wrapped-if-made-at t) wrapped-if-made.Post
+wrapped-if-made-enum-told-2 : (t : ℕ) →
+    wrapped-if-made-lts.Need-enum-told-2 (wrapped-if-made-calls t) (wrapped-if-made-at t) wrapped-if-made.Post
 wrapped-if-made-enum-told-2 t c = search needs
 
-wrapped-if-made-enum-known-end : (t : ℕ) → wrapped-if-made-lts.Need-enum-known-end (
-  wrapped-below t,
-  wrapped.Post,
-) (wrapped-if-made-at t) wrapped-if-made.Post
+wrapped-if-made-enum-known-end : (t : ℕ) →
+    wrapped-if-made-lts.Need-enum-known-end (wrapped-if-made-calls t) (wrapped-if-made-at t) wrapped-if-made.Post
 wrapped-if-made-enum-known-end t c = search needs
 
-wrapped-if-made-enum-told-3 : (t : ℕ) → wrapped-if-made-lts.Need-enum-told-3 (
-  wrapped-below t,
-  wrapped.Post,
-) (wrapped-if-made-at t) wrapped-if-made.Post
+wrapped-if-made-enum-told-3 : (t : ℕ) →
+    wrapped-if-made-lts.Need-enum-told-3 (wrapped-if-made-calls t) (wrapped-if-made-at t) wrapped-if-made.Post
 wrapped-if-made-enum-told-3 t c = search needs
 
-wrapped-if-made-same-length : (t : ℕ) → wrapped-if-made-lts.Need-same-length (
-  wrapped-below t,
-  wrapped.Post,
-) (wrapped-if-made-at t) wrapped-if-made.Post
-wrapped-if-made-same-length t c = ready-long (c .before .before .before .before .before .before .before .before .before .pre .1 .0 .ready) (c .before .before .wrapped .ensures .ready)
+wrapped-if-made-same-length : (t : ℕ) →
+    wrapped-if-made-lts.Need-same-length (wrapped-if-made-calls t) (wrapped-if-made-at t) wrapped-if-made.Post
+wrapped-if-made-same-length t c =
+    let wrapped = c .before .before .wrapped in
+    let pre = c .before .before .before .before .before .before .before .before .before .pre in
+    ready-long (pre .1 .0 .ready) (wrapped .ensures .ready)
 
-wrapped-if-made-returns : (t : ℕ) → wrapped-if-made-lts.Need-returns (
-  wrapped-below t,
-  wrapped.Post,
-) (wrapped-if-made-at t) wrapped-if-made.Post
-wrapped-if-made-returns t c = made-wrapped (c .before .before .before .before .before .before .before .before .before .args .context) (probs (c .before .before .before .before .before .before .before .before .before .args .sat) (c .before .before .before .before .before .before .before .before .before .args .dissat)) (againIn (c .before .before .before .before .before .before .before .before .before .args .context) (policyAt (c .before .before .before .before .before .before .before .before .before .args .pol .now) (c .before .before .before .before .before .before .before .before .before .args .r)) (probs (c .before .before .before .before .before .before .before .before .before .args .sat) (c .before .before .before .before .before .before .before .before .before .args .dissat))) (c .before .before .before .before .before .before .before .before .before .pre .1 .0) (c .before .before .before .before .before .x .given .1) (c .before .before .wrapped .ensures)
+wrapped-if-made-returns : (t : ℕ) →
+    wrapped-if-made-lts.Need-returns (wrapped-if-made-calls t) (wrapped-if-made-at t) wrapped-if-made.Post
+wrapped-if-made-returns t c =
+    let wrapped = c .before .before .wrapped in
+    let x = c .before .before .before .before .before .x in
+    let start = c .before .before .before .before .before .before .before .before .before in
+    let args = start .args in
+    let pre = start .pre in
+    let p = probs (args .sat) (args .dissat) in
+    let q = policyAt (args .pol .now) (args .r) in
+    let again = againIn (args .context) q p in
+    made-wrapped (args .context) p again (pre .1 .0) (x .given .1) (wrapped .ensures)
 
-wrapped-if-made-returns-2 : (t : ℕ) → wrapped-if-made-lts.Need-returns-2 (
-  wrapped-below t,
-  wrapped.Post,
-) (wrapped-if-made-at t) wrapped-if-made.Post
-wrapped-if-made-returns-2 t c = passed-over (c .before .before .before .before .args .context) (probs (c .before .before .before .before .args .sat) (c .before .before .before .before .args .dissat)) (againIn (c .before .before .before .before .args .context) (policyAt (c .before .before .before .before .args .pol .now) (c .before .before .before .before .args .r)) (probs (c .before .before .before .before .args .sat) (c .before .before .before .before .args .dissat))) (c .before .before .before .before .pre .1 .0) (c .enum-told .given .1)
+wrapped-if-made-returns-2 : (t : ℕ) →
+    wrapped-if-made-lts.Need-returns-2 (wrapped-if-made-calls t) (wrapped-if-made-at t) wrapped-if-made.Post
+wrapped-if-made-returns-2 t c =
+    let start = c .before .before .before .before in
+    let args = start .args in
+    let pre = start .pre in
+    let p = probs (args .sat) (args .dissat) in
+    let q = policyAt (args .pol .now) (args .r) in
+    let again = againIn (args .context) q p in
+    passed-over (args .context) p again (pre .1 .0) (c .enum-told .given .1)
 
-wrapped-if-made-returns-3 : (t : ℕ) → wrapped-if-made-lts.Need-returns-3 (
-  wrapped-below t,
-  wrapped.Post,
-) (wrapped-if-made-at t) wrapped-if-made.Post
-wrapped-if-made-returns-3 t c = stops (c .before .before .before .before .before .before .before .before .pre .1 .0) _ (c .before .end .given .1)
+wrapped-if-made-returns-3 : (t : ℕ) →
+    wrapped-if-made-lts.Need-returns-3 (wrapped-if-made-calls t) (wrapped-if-made-at t) wrapped-if-made.Post
+wrapped-if-made-returns-3 t c =
+    let end = c .before .end in
+    let pre = c .before .before .before .before .before .before .before .before .pre in
+    stops (pre .1 .0) _ (end .given .1)
 
-wrapped-if-made-returns-4 : (t : ℕ) → wrapped-if-made-lts.Need-returns-4 (
-  wrapped-below t,
-  wrapped.Post,
-) (wrapped-if-made-at t) wrapped-if-made.Post
-wrapped-if-made-returns-4 t c = missing-refused (c .before .before .before .before .before .before .before .args .context) (probs (c .before .before .before .before .before .before .before .args .sat) (c .before .before .before .before .before .before .before .args .dissat)) (againIn (c .before .before .before .before .before .before .before .args .context) (policyAt (c .before .before .before .before .before .before .before .args .pol .now) (c .before .before .before .before .before .before .before .args .r)) (probs (c .before .before .before .before .before .before .before .args .sat) (c .before .before .before .before .before .before .before .args .dissat))) (c .before .before .before .before .before .before .before .pre .1 .0) (c .before .before .before .enum-told2 .given .1) (c .enum-told3 .given .1)
+wrapped-if-made-returns-4 : (t : ℕ) →
+    wrapped-if-made-lts.Need-returns-4 (wrapped-if-made-calls t) (wrapped-if-made-at t) wrapped-if-made.Post
+wrapped-if-made-returns-4 t c =
+    let enum-told2 = c .before .before .before .enum-told2 in
+    let start = c .before .before .before .before .before .before .before in
+    let args = start .args in
+    let pre = start .pre in
+    let p = probs (args .sat) (args .dissat) in
+    let q = policyAt (args .pol .now) (args .r) in
+    let again = againIn (args .context) q p in
+    missing-refused (args .context) p again (pre .1 .0) (enum-told2 .given .1) (c .enum-told3 .given .1)
 
 pub +all-bests+and-body+and-ors+best-of+body+cast-once+casts-of+folded+leaves+multi+or-body+pair+pair-all+search+search-all+stage+thresh-body+wrapped+wrapped-if-made-spec :
     {M : Type 1} → statement M
@@ -3016,12 +2450,7 @@ pub +all-bests+and-body+and-ors+best-of+body+cast-once+casts-of+folded+leaves+mu
     μ-thresh-body
     μ-wrapped
     μ-wrapped-if-made
-    (λ t. all-bests-lts.spec (
-      child-reads.Asked,
-      child-reads.Learnt,
-      best-of-below t,
-      best-of.Post,
-    )
+    (λ t. all-bests-lts.spec (all-bests-calls t)
     (all-bests-at t)
     all-bests.Post
     all-bests-Inv-loop
@@ -3047,18 +2476,7 @@ pub +all-bests+and-body+and-ors+best-of+body+cast-once+casts-of+folded+leaves+mu
     (all-bests-loop-again t)
     (all-bests-same-length-3 t)
     (all-bests-returns-3 t))
-    (λ t. and-body-lts.spec (
-      child-reads.Asked,
-      child-reads.Learnt,
-      and-asks-reads.Asked,
-      and-asks-reads.Learnt,
-      and-pairings-reads.Asked,
-      and-pairings-reads.Learnt,
-      empty-reads.Asked,
-      empty-reads.Learnt,
-      stage-below t,
-      stage.Post,
-    )
+    (λ t. and-body-lts.spec (and-body-calls t)
     (and-body-at t)
     and-body.Post
     (and-body-child-requires t)
@@ -3069,18 +2487,7 @@ pub +all-bests+and-body+and-ors+best-of+body+cast-once+casts-of+folded+leaves+mu
     (and-body-stage-requires t)
     (and-body-same-length t)
     (and-body-returns t))
-    (λ t. and-ors-lts.spec (
-      head-of-reads.Asked,
-      head-of-reads.Learnt,
-      child-reads.Asked,
-      child-reads.Learnt,
-      and-or-asks-reads.Asked,
-      and-or-asks-reads.Learnt,
-      and-or-pairings-reads.Asked,
-      and-or-pairings-reads.Learnt,
-      stage-below t,
-      stage.Post,
-    )
+    (λ t. and-ors-lts.spec (and-ors-calls t)
     (and-ors-at t)
     and-ors.Post
     (and-ors-head-of-requires t)
@@ -3092,8 +2499,7 @@ pub +all-bests+and-body+and-ors+best-of+body+cast-once+casts-of+folded+leaves+mu
     (and-ors-stage-requires t)
     (and-ors-same-length t)
     (and-ors-returns-2 t))
-    (λ t. best-of-lts.spec
-    (search-below t, search′.Post, choose-reads.Asked, choose-reads.Learnt)
+    (λ t. best-of-lts.spec (best-of-calls t)
     (best-of-at t)
     best-of.Post
     (best-of-search-requires t)
@@ -3108,18 +2514,7 @@ pub +all-bests+and-body+and-ors+best-of+body+cast-once+casts-of+folded+leaves+mu
     (best-of-returns-2 t)
     (best-of-same-length-3 t)
     (best-of-returns-3 t))
-    (λ t. body-lts.spec (
-      head-of-reads.Asked,
-      head-of-reads.Learnt,
-      and-body-below t,
-      and-body.Post,
-      or-body-below t,
-      or-body.Post,
-      thresh-body-below t,
-      thresh-body.Post,
-      leaves-below t,
-      leaves.Post,
-    )
+    (λ t. body-lts.spec (body-calls t)
     (body-at t)
     body.Post
     (body-head-of-requires t)
@@ -3138,12 +2533,7 @@ pub +all-bests+and-body+and-ors+best-of+body+cast-once+casts-of+folded+leaves+mu
     (body-leaves-requires t)
     (body-same-length-4 t)
     (body-returns-4 t))
-    (λ t. cast-once-lts.spec (
-      search-below t,
-      search′.Post,
-      cast-entries-reads.Asked,
-      cast-entries-reads.Learnt,
-    )
+    (λ t. cast-once-lts.spec (cast-once-calls t)
     (cast-once-at t)
     cast-once.Post
     (cast-once-search-requires t)
@@ -3154,8 +2544,7 @@ pub +all-bests+and-body+and-ors+best-of+body+cast-once+casts-of+folded+leaves+mu
     (cast-once-returns t)
     (cast-once-same-length-2 t)
     (cast-once-returns-2 t))
-    (λ t. casts-of-lts.spec
-    (cast-once-below t, cast-once.Post)
+    (λ t. casts-of-lts.spec (casts-of-calls t)
     (casts-of-at t)
     casts-of.Post
     casts-of-Inv-loop
@@ -3174,14 +2563,7 @@ pub +all-bests+and-body+and-ors+best-of+body+cast-once+casts-of+folded+leaves+mu
     (casts-of-loop-again t)
     (casts-of-same-length-2 t)
     (casts-of-returns-3 t))
-    (λ t. folded-lts.spec (
-      folded-of-reads.Asked,
-      folded-of-reads.Learnt,
-      search-below t,
-      search′.Post,
-      table-of-reads.Asked,
-      table-of-reads.Learnt,
-    )
+    (λ t. folded-lts.spec (folded-calls t)
     (folded-at t)
     folded.Post
     (folded-returns t)
@@ -3197,18 +2579,7 @@ pub +all-bests+and-body+and-ors+best-of+body+cast-once+casts-of+folded+leaves+mu
     (folded-returns-3 t)
     (folded-same-length-2 t)
     (folded-returns-4 t))
-    (λ t. leaves-lts.spec (
-      pk-h-reads.Asked,
-      pk-h-reads.Learnt,
-      empty-reads.Asked,
-      empty-reads.Learnt,
-      wrapped-below t,
-      wrapped.Post,
-      pk-k-reads.Asked,
-      pk-k-reads.Learnt,
-      leaf-of-reads.Asked,
-      leaf-of-reads.Learnt,
-    )
+    (λ t. leaves-lts.spec (leaves-calls t)
     (leaves-at t)
     leaves.Post
     (leaves-cast-pk-h t)
@@ -3226,14 +2597,7 @@ pub +all-bests+and-body+and-ors+best-of+body+cast-once+casts-of+folded+leaves+mu
     (leaves-wrapped-requires-3 t)
     (leaves-same-length-2 t)
     (leaves-returns-2 t))
-    (λ t. multi-lts.spec (
-      all-keys-reads.Asked,
-      all-keys-reads.Learnt,
-      multi-of-reads.Asked,
-      multi-of-reads.Learnt,
-      wrapped-below t,
-      wrapped.Post,
-    )
+    (λ t. multi-lts.spec (multi-calls t)
     (multi-at t)
     multi.Post
     (multi-all-keys-requires t)
@@ -3244,22 +2608,7 @@ pub +all-bests+and-body+and-ors+best-of+body+cast-once+casts-of+folded+leaves+mu
     (multi-same-length t)
     (multi-returns t)
     (multi-returns-2 t))
-    (λ t. or-body-lts.spec (
-      child-reads.Asked,
-      child-reads.Learnt,
-      weights-reads.Asked,
-      weights-reads.Learnt,
-      empty-reads.Asked,
-      empty-reads.Learnt,
-      and-ors-below t,
-      and-ors.Post,
-      or-asks-reads.Asked,
-      or-asks-reads.Learnt,
-      or-pairings-reads.Asked,
-      or-pairings-reads.Learnt,
-      stage-below t,
-      stage.Post,
-    )
+    (λ t. or-body-lts.spec (or-body-calls t)
     (or-body-at t)
     or-body.Post
     (or-body-child-requires t)
@@ -3273,14 +2622,7 @@ pub +all-bests+and-body+and-ors+best-of+body+cast-once+casts-of+folded+leaves+mu
     (or-body-stage-requires t)
     (or-body-same-length t)
     (or-body-returns t))
-    (λ t. pair-lts.spec (
-      count-reads.Asked,
-      count-reads.Learnt,
-      made-reads.Asked,
-      made-reads.Learnt,
-      wrapped-if-made-below t,
-      wrapped-if-made.Post,
-    )
+    (λ t. pair-lts.spec (pair-calls t)
     (pair-at t)
     pair.Post
     pair-Inv-loop
@@ -3294,8 +2636,7 @@ pub +all-bests+and-body+and-ors+best-of+body+cast-once+casts-of+folded+leaves+mu
     (pair-loop-again t)
     (pair-same-length t)
     (pair-returns t))
-    (λ t. pair-all-lts.spec
-    (pair-below t, pair.Post)
+    (λ t. pair-all-lts.spec (pair-all-calls t)
     (pair-all-at t)
     pair-all.Post
     pair-all-Inv-loop
@@ -3309,14 +2650,7 @@ pub +all-bests+and-body+and-ors+best-of+body+cast-once+casts-of+folded+leaves+mu
     (pair-all-loop-again t)
     (pair-all-same-length t)
     (pair-all-returns t))
-    (λ t. search-lts.spec (
-      recall-reads.Asked,
-      recall-reads.Learnt,
-      body-below t,
-      body.Post,
-      remember-reads.Asked,
-      remember-reads.Learnt,
-    )
+    (λ t. search-lts.spec (search-calls t)
     (search-at t)
     search′.Post
     (search-recall-requires t)
@@ -3328,8 +2662,7 @@ pub +all-bests+and-body+and-ors+best-of+body+cast-once+casts-of+folded+leaves+mu
     (search-returns t)
     (search-same-length-2 t)
     (search-returns-2 t))
-    (λ t. search-all-lts.spec
-    (search-below t, search′.Post)
+    (λ t. search-all-lts.spec (search-all-calls t)
     (search-all-at t)
     search-all.Post
     search-all-Inv-loop
@@ -3349,8 +2682,7 @@ pub +all-bests+and-body+and-ors+best-of+body+cast-once+casts-of+folded+leaves+mu
     (search-all-loop-again t)
     (search-all-same-length-2 t)
     (search-all-returns-2 t))
-    (λ t. stage-lts.spec
-    (search-all-below t, search-all.Post, pair-all-below t, pair-all.Post)
+    (λ t. stage-lts.spec (stage-calls t)
     (stage-at t)
     stage.Post
     (stage-enum-known-end t)
@@ -3364,26 +2696,7 @@ pub +all-bests+and-body+and-ors+best-of+body+cast-once+casts-of+folded+leaves+mu
     (stage-returns-2 t)
     (stage-same-length-2 t)
     (stage-returns-3 t))
-    (λ t. thresh-body-lts.spec (
-      child-dissat-reads.Asked,
-      child-dissat-reads.Learnt,
-      all-bests-below t,
-      all-bests.Post,
-      empty-reads.Asked,
-      empty-reads.Learnt,
-      most-gaining-reads.Asked,
-      most-gaining-reads.Learnt,
-      arrange-reads.Asked,
-      arrange-reads.Learnt,
-      thresh-made-reads.Asked,
-      thresh-made-reads.Learnt,
-      wrapped-if-made-below t,
-      wrapped-if-made.Post,
-      multi-below t,
-      multi.Post,
-      folded-below t,
-      folded.Post,
-    )
+    (λ t. thresh-body-lts.spec (thresh-body-calls t)
     (thresh-body-at t)
     thresh-body.Post
     (thresh-body-int-to-float-ratio t)
@@ -3407,12 +2720,7 @@ pub +all-bests+and-body+and-ors+best-of+body+cast-once+casts-of+folded+leaves+mu
     (thresh-body-folded-requires t)
     (thresh-body-same-length-2 t)
     (thresh-body-returns-2 t))
-    (λ t. wrapped-lts.spec (
-      insert-closure-reads.Asked,
-      insert-closure-reads.Learnt,
-      casts-of-below t,
-      casts-of.Post,
-    )
+    (λ t. wrapped-lts.spec (wrapped-calls t)
     (wrapped-at t)
     wrapped.Post
     (wrapped-enum-known-end t)
@@ -3426,8 +2734,7 @@ pub +all-bests+and-body+and-ors+best-of+body+cast-once+casts-of+folded+leaves+mu
     (wrapped-returns-2 t)
     (wrapped-same-length-2 t)
     (wrapped-returns-3 t))
-    λ t. wrapped-if-made-lts.spec
-    (wrapped-below t, wrapped.Post)
+    λ t. wrapped-if-made-lts.spec (wrapped-if-made-calls t)
     (wrapped-if-made-at t)
     wrapped-if-made.Post
     (wrapped-if-made-enum-known-x t)

@@ -1,8 +1,7 @@
+-- `search::child_dissat` meets its contract: with a probability of dissatisfaction and without. Assumes nothing.
 use borrow.Author.Needs.{needs}
 use Rattle.search.proofs.child_dissat.Statement.{statement}
 use Rattle.search.proofs.child_dissat.Tie as tie
-use Rattle.search.proofs.child_dissat.Reads as reads
-use Rattle.search.proofs.child_dissat.Lts as lts
 
 enum-known-dissat : tie.Need-enum-known-dissat
 enum-known-dissat c = search needs
