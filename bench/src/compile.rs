@@ -7,7 +7,7 @@ use crate::random::Random;
 use crate::records::{from_hex, to_hex};
 
 /// The stored answers of the Rust.
-const STORED: &str = include_str!("../answers/compile.txt");
+const STORED: &str = include_str!("../../crates/replay/data/compile.txt");
 
 /// The words of work memory that docs/ENTRIES.md states.
 const WORK: usize = 612_360;

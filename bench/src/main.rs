@@ -73,7 +73,7 @@ const USAGE: &str = "usage:
   bench oracle                         answers the lines `CONTEXT POLICY` of standard input, a line each
   bench gen SEED COUNT MAXRECORDS      writes COUNT random lines `CONTEXT POLICY`, of 1 to MAXRECORDS (at most 64) records
   bench damage SEED COUNT MAXRECORDS   writes damaged copies of such lines
-  bench answers                        writes the stored list, answers/compile.txt, anew
+  bench answers                        writes the stored list, crates/replay/data/compile.txt, anew
   bench figures                        compares the Rust's costs with document 01's figures
   bench check SEED COUNT MAXRECORDS    runs COUNT random trees of each flavour and context through the Rust's type rules and the port
   bench compile SEED COUNT MAXRECORDS  runs COUNT random policies, some damaged, through the Rust and the port

@@ -1,4 +1,4 @@
--- Answers of the Rust, from the stored list bench/answers/compile.txt, which the definition of compile gives too: all policy kinds, both contexts,
+-- Answers of the Rust, from the stored list crates/replay/data/compile.txt, which the definition of compile gives too: all policy kinds, both contexts,
 -- done and refused. The bytes of policies and trees are written as there.
 use mathlib.Core.Bool.{Bool, true, false, _&&_}
 use mathlib.Core.List.{List, [], _∷_, _++_}

@@ -1,0 +1,7 @@
+-- Why the replay is right.
+pub mod Splits
+pub mod Numerals
+pub mod Pairs
+pub mod Cases
+pub mod Agreement
+pub mod Tallies

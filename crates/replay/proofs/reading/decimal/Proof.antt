@@ -1,0 +1,69 @@
+-- `replay::reading::decimal` meets its contract: by its length, its digits and its size. Assumes nothing.
+use mathlib.Core.Path.{sym, ap, _∙_}
+use native.Mathlib.Omega.{arith}
+use Rattle.replay.specs.Reads.{numberRead}
+use Rattle.replay.proofs.Numerals.{told-is, told-missing, no-digits, many-digits, ten-digits-fit, decimal-fits, decimal-large, decimal-missing}
+use borrow.Author.Needs.{needs}
+use Rattle.replay.proofs.reading.decimal.Statement.{statement}
+use Rattle.replay.proofs.reading.decimal.Tie as tie
+
+returns : tie.Need-returns
+returns c = ap numberRead (sym (no-digits (c .before .before .args .word .now) (c .if1 .taken)))
+
+returns-2 : tie.Need-returns-2
+returns-2 c = ap numberRead (sym (many-digits (c .before .before .before .args .word .now) (c .if2 .taken)))
+
+number-requires : tie.Need-number-requires
+number-requires c κs = ten-digits-fit (c .before .before .before .args .word .now) (c .if2 .left)
+
+enum-known-n : tie.Need-enum-known-n
+enum-known-n c = search needs
+
+enum-told : tie.Need-enum-told
+enum-told c = search needs
+
+returns-3 : tie.Need-returns-3
+returns-3 c =
+    let args = c .before .before .before .before .before .before .before .before .args in
+    let if1 = c .before .before .before .before .before .before .if1 in
+    let if2 = c .before .before .before .before .before .if2 in
+    let number = c .before .before .before .before .number in
+    let n = c .before .before .n in
+    let if3 = c .if3 in
+    ap numberRead
+    (sym (decimal-fits (args .word .now) (if1 .left) (if2 .left) _ (told-is _ (sym (n .given .1) ∙ number .ensures)) (if3 .taken)))
+
+returns-4 : tie.Need-returns-4
+returns-4 c =
+    let args = c .before .before .before .before .before .before .before .before .args in
+    let if1 = c .before .before .before .before .before .before .if1 in
+    let if2 = c .before .before .before .before .before .if2 in
+    let number = c .before .before .before .before .number in
+    let n = c .before .before .n in
+    let if3 = c .if3 in
+    ap numberRead
+    (sym (decimal-large (args .word .now) (if1 .left) (if2 .left) _ (told-is _ (sym (n .given .1) ∙ number .ensures)) (if3 .left)))
+
+returns-5 : tie.Need-returns-5
+returns-5 c =
+    let args = c .before .before .before .before .before .before .args in
+    let if1 = c .before .before .before .before .if1 in
+    let if2 = c .before .before .before .if2 in
+    let number = c .before .before .number in
+    let enum-told = c .enum-told in
+    ap numberRead
+    (sym
+    (decimal-missing (args .word .now) (if1 .left) (if2 .left) (told-missing _ (sym (enum-told .given .1) ∙ number .ensures))))
+
+pub decimal-spec : {M : Type 1} → statement M
+decimal-spec =
+    tie.close
+    (tie.spec
+    returns
+    returns-2
+    number-requires
+    enum-known-n
+    enum-told
+    returns-3
+    returns-4
+    returns-5)
