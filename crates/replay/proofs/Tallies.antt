@@ -70,7 +70,7 @@ module _ (text : List ℕ) (room : ℕ) where
   }
 
   module _ (t : Tally) (at n : ℕ) (g : Going text room t at n) where
-    pub counts-small : length text ≤ 1048576 → (t .agree < 2 ^ 32) × (t .differ < 2 ^ 32) × (t .broken < 2 ^ 32)
+    pub counts-small : length text ≤ 524288 → (t .agree < 2 ^ 32) × (t .differ < 2 ^ 32) × (t .broken < 2 ^ 32)
     counts-small few = (omega (arith, g .agree, g .within), omega (arith, g .differ, g .within), omega (arith, g .broken, g .within))
 
     module _ (end : ℕ) (e : EndsAt newline text at end) (room′ : ℕ) (same : room′ ≡ room) (v : Verdict)
@@ -106,7 +106,7 @@ module _ (text : List ℕ) (room : ℕ) where
 
 -- arrays of zeros that are long enough
 pub lent-zeros : (text : List ℕ) (policy stored work : ℕ)
-    → length text ≤ 1048576 → 1048576 ≤ 2 * policy → 1048576 ≤ 2 * stored → work ≡ workWords
+    → length text ≤ 524288 → 524288 ≤ 2 * policy → 524288 ≤ 2 * stored → work ≡ workWords
     → Lent text (replicate policy 0) (replicate stored 0) (replicate work 0)
 lent-zeros text policy stored work few p s w = record {
   few = few;
@@ -126,5 +126,5 @@ module _ {r : Held} {n : ℕ} (room : List ℕ) (h : AtMost (length room) r) (e 
   pub held-long : n ≡ length (take n left)
   held-long = sym (length-take-le n left held-fits)
 
-  pub held-few : n ≤ 1048576 → length (take n left) ≤ 1048576
+  pub held-few : n ≤ 524288 → length (take n left) ≤ 524288
   held-few few = omega (arith, held-long)

@@ -77,9 +77,9 @@ pub data Tells (l : Line) (policy output : List ℕ) : Case → Type 0 where
       → Tells l policy output (Case.Says s)
   breaks : l ≡ broken → Tells l policy output Case.Broken
 
--- what is lent for a text of at most 1,048,576 bytes: rooms of at least half as many bytes, and work memory of its one length
+-- what is lent for a text of at most 524,288 bytes: rooms of at least half as many bytes, and work memory of its one length
 pub record Lent (text policy stored work : List ℕ) : Type 0 where
-  pub few : length text ≤ 1048576
+  pub few : length text ≤ 524288
   pub policies : length text ≤ 2 * length policy
   pub outputs : length text ≤ 2 * length stored
   pub whole : length work ≡ workWords

@@ -21,7 +21,7 @@ use showing::show_tally;
 const NEWLINE: u8 = 10;
 
 // The most bytes of a list.
-const MOST: usize = 1_048_576;
+const MOST: usize = 524_288;
 
 // What reading a number finds.
 pub enum Number {
@@ -111,10 +111,10 @@ fn replay(
 
 // Lends a text what it needs: room for every policy and output that it can hold, room for an output of 4,096 records, and work memory.
 fn run(text: &[u8])
-    requires { ⌜ length (now text) ≤ 1048576 ⌝ }
+    requires { ⌜ length (now text) ≤ 524288 ⌝ }
 {
-    let mut policy = [0u8; 524_288];
-    let mut stored = [0u8; 524_288];
+    let mut policy = [0u8; 262_144];
+    let mut stored = [0u8; 262_144];
     let mut out = [0u8; 294_912];
     let mut work = [0u64; 612_360];
     show_tally(replay(text, &mut policy, &mut stored, &mut out, &mut work));
@@ -148,7 +148,7 @@ fn run_in(fd: i32, path: &[u8], room: &mut [u8]) {
                 run(&room[..n]);
             } else {
                 io::write_all(STDERR_FILENO, path);
-                io::write_all(STDERR_FILENO, b": longer than 1,048,576 bytes\n");
+                io::write_all(STDERR_FILENO, b": longer than 524,288 bytes\n");
             }
         }
     }
@@ -156,7 +156,7 @@ fn run_in(fd: i32, path: &[u8], room: &mut [u8]) {
 
 // Runs the list that is open for reading.
 fn run_file(fd: i32, path: &[u8]) {
-    let mut room = [0u8; 1_048_577];
+    let mut room = [0u8; 524_289];
     run_in(fd, path, &mut room);
 }
 

@@ -8,10 +8,10 @@ use Rattle.replay.proofs.run.Statement.{statement}
 use Rattle.replay.proofs.run.Tie as tie
 
 slice-aggregate-replay : tie.Need-slice-aggregate-replay
-slice-aggregate-replay c = sym (length-replicate {A = ℕ} 524288 0)
+slice-aggregate-replay c = sym (length-replicate {A = ℕ} 262144 0)
 
 slice-aggregate-replay-2 : tie.Need-slice-aggregate-replay-2
-slice-aggregate-replay-2 c = sym (length-replicate {A = ℕ} 524288 0)
+slice-aggregate-replay-2 c = sym (length-replicate {A = ℕ} 262144 0)
 
 slice-aggregate-replay-3 : tie.Need-slice-aggregate-replay-3
 slice-aggregate-replay-3 c = sym (length-replicate {A = ℕ} 294912 0)
@@ -23,7 +23,7 @@ replay-requires : tie.Need-replay-requires
 replay-requires c κs =
     let args = c .before .before .before .before .before .args in
     let pre = c .before .before .before .before .before .pre in
-    lent-zeros (args .text .now) 524288 524288 612360 pre (lit≤ tt) (lit≤ tt) refl
+    lent-zeros (args .text .now) 262144 262144 612360 pre (lit≤ tt) (lit≤ tt) refl
 
 show-tally-requires : tie.Need-show-tally-requires
 show-tally-requires c κs = tt

@@ -6,7 +6,7 @@ use Rattle.replay.proofs.run_file.Statement.{statement}
 use Rattle.replay.proofs.run_file.Tie as tie
 
 slice-aggregate-run-in : tie.Need-slice-aggregate-run-in
-slice-aggregate-run-in c = sym (length-replicate {A = ℕ} 1048577 0)
+slice-aggregate-run-in c = sym (length-replicate {A = ℕ} 524289 0)
 
 run-in-requires : tie.Need-run-in-requires
 run-in-requires c κs = tt
