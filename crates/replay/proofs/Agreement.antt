@@ -1,6 +1,6 @@
 -- Whether an outcome is a stored answer. Assumes nothing.
 use mathlib.Core.Bool.{Bool, true, false, _&&_}
-use mathlib.Core.List.{List, [], _∷_, _++_}
+use mathlib.Core.List.{List, [], _∷_}
 use mathlib.Core.Path.{_≡_, refl, sym, ap, subst, _∙_}
 use Prim.Native.Nat.{ℕ, suc, _+_, _-_, _<_, _≤_}
 use native.Mathlib.Numerals.{add-one}
@@ -9,14 +9,13 @@ use borrow.Author.Tests.{eq-eqb, ne-eqb, eqb-true}
 use lib.Dec.{eqb}
 use lib.ListN.{length, take, drop, getD, length-append, length-drop}
 use lib.Seq.{drop-cons, drop-length, take-append-seam}
-use Rattle.words.specs.Memory.{zeroed}
 use Rattle.memory.specs.Layout.{workWords}
 use Rattle.compilation.specs.AnswersOfTheRust.{sameBytes}
 use Rattle.compilation.specs.Compile.{Outcome, compiled, refusedWith, compile}
 use Rattle.claspwillow.specs.Promises.{numberOfOutcome, outputAfter, bytesWritten, costGiven, nodesUsed, given, CompilePromise}
 use Rattle.replay.specs.Lines.{Line, passed, broken, says, hash, space, split, saidBy, lineOf}
 use Rattle.replay.specs.Reads.{saidIn, Tells, tells, breaks}
-use Rattle.replay.specs.Verdicts.{outputOf, agrees, judged, verdictOf, outAfter, workAfter, Judges, AgreesMeans}
+use Rattle.replay.specs.Verdicts.{outputOf, agrees, judged, Judges, AgreesMeans}
 use Rattle.replay.specs.declared.Said.{Said}
 use Rattle.replay.specs.declared.Case.{Case}
 use Rattle.replay.specs.declared.Case.the-variants as Case

@@ -3,13 +3,13 @@ use mathlib.Core.Bool.{Bool, true, false, cond, _&&_}
 use mathlib.Core.List.{List}
 use mathlib.Core.Option.{Option, none, some}
 use mathlib.Core.Path.{_≡_, refl, sym, ap, subst, _∙_}
-use Prim.Native.Nat.{ℕ, _+_, _*_, _^_, _<_, _≤_}
+use Prim.Native.Nat.{ℕ, _+_, _^_, _<_, _≤_}
 use native.Mathlib.Omega.{arith}
 use borrow.Author.Tests.{ltb-true}
 use lib.Dec.{leb, ltb}
 use lib.ListN.{length, take}
-use Rattle.replay.specs.Lines.{Line, broken, says, below, decimal, bits, records, space, split, saidBy, numberAfter}
-use Rattle.replay.specs.Reads.{part, Reads, reads, misses, InOrder, SixWords, six, other, saidAt, Tells, tells, breaks}
+use Rattle.replay.specs.Lines.{Line, says, below, decimal, bits, records, space, split, saidBy, numberAfter}
+use Rattle.replay.specs.Reads.{part, Reads, reads, misses, InOrder, SixWords, six, other, saidAt, Tells, breaks}
 use Rattle.replay.specs.declared.Length.{Length}
 use Rattle.replay.specs.declared.Length.the-variants as Length
 use Rattle.replay.specs.declared.Words.{Words}

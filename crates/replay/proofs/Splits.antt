@@ -7,7 +7,7 @@ use native.Mathlib.Numerals.{add-one}
 use native.Mathlib.Omega.{arith}
 use borrow.Author.Tests.{eq-eqb, ne-eqb}
 use lib.Dec.{eqb}
-use lib.ListN.{length, take, drop, getD, length-drop}
+use lib.ListN.{length, drop, getD, length-drop}
 use lib.Seq.{take-suc, drop-cons, drop-length, getD-drop}
 use Rattle.replay.specs.Lines.{onFirst, split, space}
 use Rattle.replay.specs.declared.Words.the-variants as Words

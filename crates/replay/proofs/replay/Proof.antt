@@ -1,11 +1,10 @@
 -- `replay::replay` meets its contract: the counts grow line by line. Assumes nothing.
-use mathlib.Core.Path.{_≡_, sym, _∙_}
+use mathlib.Core.Path.{_≡_, _∙_}
 use Prim.Native.Nat.{_-_}
 use borrow.Author.Needs.{needs}
 use lib.ListN.{length}
 use Rattle.replay.proofs.Tallies.{Going, Kept, part-short, kept-first, going-first, counts-small, counts-all, going-next}
 use native.Mathlib.Omega.{arith}
-use lib.ListN.{length-set}
 use Rattle.replay.proofs.replay.Statement.{statement}
 use Rattle.replay.proofs.replay.Tie as tie
 

@@ -1,6 +1,5 @@
 -- `replay::judging::judge` meets its contract: what the port gives is the definition's, and is compared. Assumes nothing.
 use mathlib.Core.Path.{_≡_, sym}
-use native.Mathlib.Omega.{arith}
 use lib.ListN.{length, take}
 use lib.Seq.{length-take-le}
 use Rattle.replay.proofs.Agreement.{bytes-fit, judges-agrees, judges-differs}

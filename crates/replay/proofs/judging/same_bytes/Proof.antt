@@ -30,9 +30,8 @@ returns-2 c =
     let args = c .before .before .before .before .before .before .args in
     let if1 = c .before .before .before .before .before .if1 in
     let loop = c .before .before .before .before .loop in
-    let loop-test = c .before .before .before .loop-test in
     let if2 = c .if2 in
-    sym (other-byte (args .a .now) (args .b .now) (if1 .left) (loop .i) (loop .inv) (loop-test .taken) (if2 .taken))
+    sym (other-byte (args .a .now) (args .b .now) (if1 .left) (loop .i) (loop .inv) (omega arith) (if2 .taken))
 
 add-i : tie.Need-add-i Inv-loop μ-loop
 add-i c = omega arith
@@ -45,9 +44,8 @@ loop-again c =
     let args = c .before .before .before .before .before .before .args in
     let if1 = c .before .before .before .before .before .if1 in
     let loop = c .before .before .before .before .loop in
-    let loop-test = c .before .before .before .loop-test in
     let if2 = c .if2 in
-    same-next (args .a .now) (args .b .now) (if1 .left) (loop .i) (loop .inv) (loop-test .taken) (if2 .left)
+    same-next (args .a .now) (args .b .now) (if1 .left) (loop .i) (loop .inv) (omega arith) (if2 .left)
 
 returns-3 : tie.Need-returns-3 Inv-loop μ-loop
 returns-3 c =

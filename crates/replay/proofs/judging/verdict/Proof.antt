@@ -1,6 +1,5 @@
 -- `replay::judging::verdict` meets its contract: a blank line, a heading, a case or a broken line. Assumes nothing.
 use mathlib.Core.Path.{_∙_}
-use native.Mathlib.Omega.{arith}
 use Rattle.replay.proofs.Agreement.{blank, heading, case-line, judges-as, judges-broken, says-told, broken-told}
 use borrow.Author.Needs.{needs}
 use Rattle.replay.proofs.judging.verdict.Statement.{statement}

@@ -1,7 +1,5 @@
 -- `replay::reading::bits` meets its contract: by its length and its digits. Assumes nothing.
 use mathlib.Core.Path.{sym, ap, _∙_}
-use borrow.Author.Needs.{needs}
-use native.Mathlib.Omega.{arith}
 use Rattle.replay.specs.Reads.{numberRead}
 use Rattle.replay.proofs.Numerals.{sixteen-digits-fit, bits-read, bits-missing}
 use Rattle.replay.proofs.reading.bits.Statement.{statement}

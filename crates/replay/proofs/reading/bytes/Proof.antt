@@ -4,7 +4,6 @@ use borrow.Author.Needs.{needs}
 use lib.ListN.{length}
 use Rattle.replay.proofs.Pairs.{Held, held-none, held-next, held-all, odd, high-wrong, low-wrong}
 use native.Mathlib.Omega.{arith}
-use lib.ListN.{length-set}
 use Rattle.replay.proofs.reading.bytes.Statement.{statement}
 use Rattle.replay.proofs.reading.bytes.Tie as tie
 

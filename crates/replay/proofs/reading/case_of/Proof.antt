@@ -1,6 +1,5 @@
 -- `replay::reading::case_of` meets its contract: six words, or a line that is broken. Assumes nothing.
 use mathlib.Core.Path.{subst}
-use native.Mathlib.Omega.{arith}
 use Rattle.replay.specs.Reads.{SixWords}
 use Rattle.replay.specs.declared.Words.{Words}
 use Rattle.replay.proofs.Cases.{told-six, told-other, told-as}

@@ -1,6 +1,5 @@
 -- `replay::reading::decimal` meets its contract: by its length, its digits and its size. Assumes nothing.
 use mathlib.Core.Path.{sym, ap, _∙_}
-use native.Mathlib.Omega.{arith}
 use Rattle.replay.specs.Reads.{numberRead}
 use Rattle.replay.proofs.Numerals.{told-is, told-missing, no-digits, many-digits, ten-digits-fit, decimal-fits, decimal-large, decimal-missing}
 use borrow.Author.Needs.{needs}

@@ -1,9 +1,4 @@
 -- `replay::reading::records` meets its contract: by its length, and a lone sign by what it is. Assumes nothing.
-use mathlib.Core.List.{List}
-use mathlib.Core.Option.{Option}
-use mathlib.Core.Path.{sym, ap, subst, _∙_}
-use Prim.Native.Nat.{ℕ}
-use native.Mathlib.Omega.{arith}
 use Rattle.replay.proofs.Pairs.{no-word, no-records, lone-sign, read-as, records-are-bytes}
 use borrow.Author.Needs.{needs}
 use Rattle.replay.proofs.reading.records.Statement.{statement}

@@ -1,5 +1,4 @@
 -- `replay::reading::words` meets its contract: one word after the other. Assumes nothing.
-use native.Mathlib.Omega.{arith}
 use Rattle.replay.proofs.Splits.{one-word, two-words, three-words, four-words, five-words, many-words, six-words}
 use borrow.Author.Needs.{needs}
 use Rattle.replay.proofs.reading.words.Statement.{statement}
