@@ -3,9 +3,9 @@
 use mathlib.Core.Bool.{Bool, true, false, not, _&&_}
 use mathlib.Core.Path.{_≡_}
 use lib.Dec.{T}
-use Rattle.types.specs.Letters.{implies}
-use Rattle.types.specs.CorrectnessRules as corr
-use Rattle.types.specs.MalleabilityRules as mall
+use Rattle.terms.specs.Bools.{implies}
+use Rattle.correctness.specs.CorrectnessRules as corr
+use Rattle.malleability.specs.MalleabilityRules as mall
 use Rattle.bip379.specs.Rust.{Base, Input, Zero, Correctness, Malleability, «Type»}
 use Rattle.bip379.specs.Correctness.{Context, isB, bothBKV}
 use Rattle.bip379.specs.Correctness as C

@@ -3,8 +3,8 @@ use mathlib.Core.Bool.{Bool}
 use mathlib.Core.Option.{Option}
 use mathlib.Core.Path.{_≡_}
 use lib.Dec.{T}
-use Rattle.types.specs.CorrectnessRules as corr
-use Rattle.types.specs.MalleabilityRules as mall
+use Rattle.correctness.specs.CorrectnessRules as corr
+use Rattle.malleability.specs.MalleabilityRules as mall
 use Rattle.types.specs.TypeRules.{typed}
 use Rattle.bip379.specs.Rust.{Correctness, CorrectnessResult, Malleability, «Type»}
 use Rattle.bip379.specs.Correctness.{Correct}

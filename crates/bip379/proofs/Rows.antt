@@ -3,7 +3,7 @@ use mathlib.Core.Bool.{Bool, true, false}
 use mathlib.Core.Option.{Option, none, some}
 use mathlib.Core.Path.{_≡_, refl}
 use lib.Dec.{T}
-use Rattle.types.specs.declared.correctness.CorrectnessResult.the-variants.{Ok, IllTyped}
+use Rattle.correctness.specs.declared.CorrectnessResult.the-variants.{Ok, IllTyped}
 use Rattle.types.specs.TypeRules.{typed}
 use Rattle.bip379.specs.Rust.{CorrectnessResult, Malleability}
 use Rattle.bip379.specs.Correctness.{Correct}

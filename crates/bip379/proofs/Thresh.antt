@@ -10,12 +10,13 @@ use lib.Dec.{T, leb, ltb, eqb, leb→le, eqb·suc-zero, eqb·suc-suc}
 use lib.ListN.{length}
 use lib.Ieee.Fits.{and-l, and-r}
 use borrow.Author.Tests.{leb-true, leb-false, le-leb, lt-leb, eqb-true, eqb-false, eq-eqb, ne-eqb}
-use Rattle.types.specs.Letters.{isB, isW, isZero, isOne, isNonZero, isUnique}
-use Rattle.types.specs.Lists.{all, sum, one}
-use Rattle.types.specs.CorrectnessRules.{okIf, correctness, firstB, numArgs, thresholdInput}
-use Rattle.types.specs.MalleabilityRules.{malleability, safeCount, allUnique}
-use Rattle.types.specs.CorrectnessRules as corr
-use Rattle.types.specs.MalleabilityRules as mall
+use Rattle.correctness.specs.Letters.{isB, isW, isZero, isOne, isNonZero}
+use Rattle.malleability.specs.Letters.{isUnique}
+use Rattle.terms.specs.Lists.{all, sum, one}
+use Rattle.correctness.specs.CorrectnessRules.{okIf, correctness, firstB, numArgs, thresholdInput}
+use Rattle.malleability.specs.MalleabilityRules.{malleability, safeCount, allUnique}
+use Rattle.correctness.specs.CorrectnessRules as corr
+use Rattle.malleability.specs.MalleabilityRules as mall
 use Rattle.types.specs.TypeRules.{typed, typedIf, kOfN, threshold}
 use Rattle.bip379.specs.Rust.{Base, B, K, «V», W, Input, Zero, One, Any, OneNonZero, AnyNonZero, Unique, Unknown}
 use Rattle.bip379.specs.Rust.{Correctness, Malleability, «Type», TypeResult}

@@ -9,8 +9,9 @@ use lib.Dec.{T}
 use lib.ListN.{length}
 use Rattle.bip379.specs.Rust.{Base, Correctness, Malleability, «Type», TypeResult, Ok, IllTyped}
 use Rattle.bip379.specs.Rust as R
-use Rattle.types.specs.Letters.{isZero, isOne, isNonZero, isNone, isUnique}
-use Rattle.types.specs.Lists.{all}
+use Rattle.correctness.specs.Letters.{isZero, isOne, isNonZero}
+use Rattle.malleability.specs.Letters.{isNone, isUnique}
+use Rattle.terms.specs.Lists.{all}
 use Rattle.types.specs.TypeRules as Rule
 use Rattle.types.specs.Sanity.{sane, arises}
 use Rattle.bip379.specs.Correctness.{Context, Correct, inTapscript, isK, isV, firstBdu}

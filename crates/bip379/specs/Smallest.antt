@@ -3,8 +3,8 @@
 use mathlib.Core.Bool.{true, false}
 use mathlib.Core.List.{[], _∷_}
 use mathlib.Core.Path.{_≡_, refl}
-use Rattle.types.specs.CorrectnessRules.{correctness}
-use Rattle.types.specs.MalleabilityRules.{malleability}
+use Rattle.correctness.specs.CorrectnessRules.{correctness}
+use Rattle.malleability.specs.MalleabilityRules.{malleability}
 use Rattle.bip379.specs.Rust.{B, «V», Zero, One, AnyNonZero, None, Unknown, «Type», Ok}
 use Rattle.bip379.specs.Correctness.{p2wsh, tapscript}
 use Rattle.bip379.specs.Bip379.{just-0, just-1, multi, d:, v:, j:, l:, thresh, wrap}

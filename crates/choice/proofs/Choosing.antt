@@ -12,7 +12,7 @@ use Rattle.words.specs.Floats.{costLe}
 use Rattle.figures.specs.Bounds.{Small}
 use Rattle.costs.specs.declared.DissatProb.{DissatProb}
 use Rattle.types.specs.declared.«Type».{«Type»}
-use Rattle.types.specs.declared.correctness.Base.the-variants.{B, W}
+use Rattle.correctness.specs.declared.Base.the-variants.{B, W}
 use Rattle.writing.specs.WellFormed.{AllBelow}
 use Rattle.compilation.specs.Candidates.{Candidate}
 use Rattle.compilation.specs.Tables.{Probs, probs, costAt}

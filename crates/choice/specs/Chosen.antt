@@ -7,10 +7,11 @@ use mathlib.Core.Path.{_≡_}
 use Prim.Native.Nat.{ℕ, _<_}
 use lib.Ieee.{Float}
 use Rattle.words.specs.Floats.{costLe}
-use Rattle.types.specs.declared.correctness.Base.{Base}
-use Rattle.types.specs.declared.correctness.Base.the-variants.{B, W}
+use Rattle.correctness.specs.declared.Base.{Base}
+use Rattle.correctness.specs.declared.Base.the-variants.{B, W}
 use Rattle.types.specs.declared.«Type».{«Type»}
-use Rattle.types.specs.Letters.{baseEq, isUnique}
+use Rattle.correctness.specs.Letters.{baseEq}
+use Rattle.malleability.specs.Letters.{isUnique}
 use Rattle.compilation.specs.Candidates.{Candidate}
 use Rattle.compilation.specs.Tables.{Probs}
 use Rattle.compilation.specs.Search.{suitsThresh, isBaseB, cheapest}

@@ -21,12 +21,12 @@ ghost use Rattle.choice.specs.Keys.{AllKeys, MultiOf};
 ghost use Rattle.choice.specs.Threshes.{typesOf, extsOf, costsOf, threshWith, threshAt, withRow, MakesThresh};
 use candidates::Candidate;
 use candidates::Made;
+use correctness::Base;
 use costs::Cost;
 use costs::Costed;
 use costs::DissatProb;
 use figures::ExtData;
 use terms::Context;
-use types::Base;
 use types::Type;
 use types::TypeResult;
 

@@ -15,7 +15,7 @@ use Rattle.figures.specs.Validity.{fromAst, checkGlobalValidity, checkLocalVali
 use Rattle.thresholds.specs.Threshold.{threshold, satisfied, worst, together, tryFold, sortBy, insertBy}
 use Rattle.costs.specs.Rules as cost
 use Rattle.costs.specs.Cost1d.{cost1d}
-use Rattle.types.specs.Lists as lists
+use Rattle.terms.specs.Lists as lists
 use Rattle.trees.specs.Fragment.{toList}
 use lib.Ieee.{add, sub, mul, div, lt, eq, le, ofBits, toBits, ofInt}
 use Rattle.compilation.specs.Candidates.{fragments, threshOf}

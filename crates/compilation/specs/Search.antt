@@ -9,9 +9,10 @@ use lib.ListN.{length}
 use lib.Ieee.{Float, inf, lt}
 use Rattle.terms.specs.declared.Context.{Context}
 use Rattle.terms.specs.Leaves.{LockKind, HashKind}
-use Rattle.types.specs.declared.correctness.Base.{Base}
-use Rattle.types.specs.declared.correctness.Base.the-variants.{B, W}
-use Rattle.types.specs.Letters.{baseEq, isUnique}
+use Rattle.correctness.specs.declared.Base.{Base}
+use Rattle.correctness.specs.declared.Base.the-variants.{B, W}
+use Rattle.correctness.specs.Letters.{baseEq}
+use Rattle.malleability.specs.Letters.{isUnique}
 use Rattle.words.specs.Floats.{costLe}
 use Rattle.costs.specs.declared.DissatProb.{DissatProb}
 use Rattle.costs.specs.declared.DissatProb.the-variants as Prob

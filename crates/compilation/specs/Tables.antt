@@ -6,7 +6,8 @@ use Prim.Native.Nat.{ℕ}
 use lib.Dec.{ltb}
 use lib.Ieee.{Float, eq}
 use Rattle.types.specs.Subtype.{typeSub}
-use Rattle.types.specs.TypeOrder.{pack, boolRank}
+use Rattle.types.specs.TypeOrder.{pack}
+use Rattle.terms.specs.Bools.{boolRank}
 use Rattle.costs.specs.declared.DissatProb.{DissatProb}
 use Rattle.costs.specs.declared.DissatProb.the-variants as Prob
 use Rattle.costs.specs.Cost1d.{cost1d}

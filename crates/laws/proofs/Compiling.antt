@@ -10,9 +10,9 @@ use lib.Dec.{leb}
 use lib.ListN.{length}
 use Rattle.words.specs.Floats.{wordOfFloat}
 use Rattle.terms.specs.declared.Context.{Context}
-use Rattle.types.specs.declared.correctness.Base.{Base}
-use Rattle.types.specs.declared.correctness.Base.the-variants.{B, K, «V», W}
-use Rattle.types.specs.Letters.{isB}
+use Rattle.correctness.specs.declared.Base.{Base}
+use Rattle.correctness.specs.declared.Base.the-variants.{B, K, «V», W}
+use Rattle.correctness.specs.Letters.{isB}
 use Rattle.figures.specs.Validity.{checkLocalValidity}
 use Rattle.policies.specs.Policy.{Policy}
 use Rattle.policies.specs.Reading as Reading

@@ -5,7 +5,8 @@ use Prim.Native.Nat.{ℕ, _+_, _*_, _<_, _≤_}
 use native.Mathlib.Omega.{arith}
 use lib.Dec.{ltb}
 use borrow.Author.Tests.{ltb-true, ltb-false, lt-ltb, le-ltb}
-use Rattle.types.specs.TypeOrder.{boolRank, pack}
+use Rattle.terms.specs.Bools.{boolRank}
+use Rattle.types.specs.TypeOrder.{pack}
 use Rattle.compilation.specs.Candidates.{Candidate}
 use Rattle.compilation.specs.Tables.{freeVerify, sameBool, keySub, keyBefore}
 use Rattle.types.proofs.PackLaws.{pack-injective}

@@ -10,7 +10,7 @@ use lib.ListN.{length}
 use Rattle.words.specs.Floats.{costLe}
 use lib.Ieee.{Float}
 use Rattle.terms.specs.declared.Context.{Context}
-use Rattle.types.specs.declared.correctness.Base.the-variants.{B, W}
+use Rattle.correctness.specs.declared.Base.the-variants.{B, W}
 use Rattle.costs.specs.declared.DissatProb.{DissatProb}
 use Rattle.costs.specs.declared.DissatProb.the-variants as Prob
 use Rattle.costs.specs.Arithmetic.{0·, 1·}

@@ -9,7 +9,7 @@ use lib.ListN.{length}
 use lib.Ieee.{Float, inf, lt}
 use Rattle.terms.specs.declared.Context.{Context}
 use Rattle.terms.specs.Leaves.{LockKind, HashKind}
-use Rattle.types.specs.declared.correctness.Base.the-variants.{B, W}
+use Rattle.correctness.specs.declared.Base.the-variants.{B, W}
 use Rattle.words.specs.Floats.{isCost}
 use Rattle.costs.specs.declared.DissatProb.the-variants as Prob
 use Rattle.costs.specs.Arithmetic.{_⊕_, _⊖_, _⊗_, _⊘_, floatOf, 0·, 1·}

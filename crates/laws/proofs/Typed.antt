@@ -13,16 +13,16 @@ use Rattle.terms.specs.Leaves.{LockKind, HashKind}
 use Rattle.types.specs.declared.«Type».{«Type»}
 use Rattle.types.specs.declared.TypeResult.{TypeResult}
 use Rattle.types.specs.declared.TypeResult.the-variants.{Ok, IllTyped}
-use Rattle.types.specs.declared.correctness.Base.{Base}
-use Rattle.types.specs.declared.correctness.Base.the-variants.{B, K, «V», W}
-use Rattle.types.specs.declared.correctness.Input.{Input}
-use Rattle.types.specs.declared.correctness.Input.the-variants.{Zero, One, Any, OneNonZero, AnyNonZero}
-use Rattle.types.specs.declared.correctness.Correctness.{Correctness}
-use Rattle.types.specs.declared.malleability.Dissat.{Dissat}
-use Rattle.types.specs.declared.malleability.Dissat.the-variants.{None, Unique, Unknown}
-use Rattle.types.specs.declared.malleability.Malleability.{Malleability}
-use Rattle.types.specs.CorrectnessRules as corr
-use Rattle.types.specs.MalleabilityRules as mall
+use Rattle.correctness.specs.declared.Base.{Base}
+use Rattle.correctness.specs.declared.Base.the-variants.{B, K, «V», W}
+use Rattle.correctness.specs.declared.Input.{Input}
+use Rattle.correctness.specs.declared.Input.the-variants.{Zero, One, Any, OneNonZero, AnyNonZero}
+use Rattle.correctness.specs.declared.Correctness.{Correctness}
+use Rattle.malleability.specs.declared.Dissat.{Dissat}
+use Rattle.malleability.specs.declared.Dissat.the-variants.{None, Unique, Unknown}
+use Rattle.malleability.specs.declared.Malleability.{Malleability}
+use Rattle.correctness.specs.CorrectnessRules as corr
+use Rattle.malleability.specs.MalleabilityRules as mall
 use Rattle.types.specs.TypeRules as type
 use Rattle.figures.specs.declared.ExtData.{ExtData}
 use Rattle.figures.specs.Rules as ext

@@ -10,7 +10,7 @@ use Rattle.terms.specs.declared.Context.{Context}
 use Rattle.words.specs.Floats.{isCost}
 use Rattle.types.specs.declared.«Type».{«Type»}
 use Rattle.types.specs.declared.TypeResult.the-variants.{Ok}
-use Rattle.types.specs.declared.correctness.Base.the-variants.{B}
+use Rattle.correctness.specs.declared.Base.the-variants.{B}
 use Rattle.figures.specs.declared.ExtData.{ExtData}
 use Rattle.figures.specs.Rules as ext
 use Rattle.figures.specs.Validity.{checkLocalValidity}

@@ -4,11 +4,12 @@ use mathlib.Core.Bool.{Bool, cond}
 use mathlib.Core.List.{List, [], _∷_}
 use Prim.Native.Nat.{ℕ}
 use Prim.Native.Char.{Char, code}
-use Rattle.types.specs.Letters.{isZero, isOne, isNonZero, isNone, isUnique}
-use Rattle.types.specs.declared.correctness.Base.{Base}
-use Rattle.types.specs.declared.correctness.Base.the-variants.{B, K, «V», W}
-use Rattle.types.specs.declared.correctness.Correctness.{Correctness}
-use Rattle.types.specs.declared.malleability.Malleability.{Malleability}
+use Rattle.correctness.specs.Letters.{isZero, isOne, isNonZero}
+use Rattle.malleability.specs.Letters.{isNone, isUnique}
+use Rattle.correctness.specs.declared.Base.{Base}
+use Rattle.correctness.specs.declared.Base.the-variants.{B, K, «V», W}
+use Rattle.correctness.specs.declared.Correctness.{Correctness}
+use Rattle.malleability.specs.declared.Malleability.{Malleability}
 use Rattle.names.specs.Text.{space}
 
 abbrev pub baseLetter : Base → ℕ

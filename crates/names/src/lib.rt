@@ -8,9 +8,9 @@ ghost use Rattle.io.specs.Counts.{Counts};
 ghost use Rattle.names.specs.Text.{space, inPlaces, withoutSpaces};
 ghost use Rattle.names.specs.Names.{kinds, answers, nameIn};
 ghost use Rattle.names.specs.Letters.{baseLetter, correctnessPlaces, malleabilityPlaces};
-use types::Base;
-use types::Correctness;
-use types::Malleability;
+use correctness::Base;
+use correctness::Correctness;
+use malleability::Malleability;
 
 // The name of a fragment's kind.
 pub fn kind_name(kind: u16) -> [u8; 12]

@@ -4,24 +4,27 @@ use mathlib.Core.Bool.{Bool, true, false, cond, not, _&&_, _||_}
 use mathlib.Core.List.{List, [], _∷_}
 use lib.Dec.{eqb}
 use borrow.Author.Tests.{eqb-true}
-use Rattle.types.specs.declared.correctness.Base.{Base}
-use Rattle.types.specs.declared.correctness.Base.the-variants.{B, K, «V», W}
-use Rattle.types.specs.declared.correctness.Input.{Input}
-use Rattle.types.specs.declared.correctness.Input.the-variants.{Zero, One, Any, OneNonZero, AnyNonZero}
-use Rattle.types.specs.declared.correctness.Correctness.{Correctness}
-use Rattle.types.specs.declared.malleability.Dissat.{Dissat}
-use Rattle.types.specs.declared.malleability.Malleability.{Malleability}
+use Rattle.correctness.specs.declared.Base.{Base}
+use Rattle.correctness.specs.declared.Base.the-variants.{B, K, «V», W}
+use Rattle.correctness.specs.declared.Input.{Input}
+use Rattle.correctness.specs.declared.Input.the-variants.{Zero, One, Any, OneNonZero, AnyNonZero}
+use Rattle.correctness.specs.declared.Correctness.{Correctness}
+use Rattle.malleability.specs.declared.Dissat.{Dissat}
+use Rattle.malleability.specs.declared.Malleability.{Malleability}
 use Rattle.types.specs.declared.«Type».{«Type»}
 use Rattle.types.specs.declared.TypeResult.{TypeResult}
-use Rattle.types.specs.Letters.{isB, isV, isW, baseEq, isZero, isOne, isUnique, implies}
-use Rattle.types.specs.Lists.{all}
-use Rattle.types.specs.CorrectnessRules.{okIf, isBdu, sameBKV, andInput, orBInput, orDInput, orIInput, andOrInput}
-use Rattle.types.specs.MalleabilityRules as mall
+use Rattle.correctness.specs.Letters.{isB, isV, isW, baseEq, isZero, isOne}
+use Rattle.malleability.specs.Letters.{isUnique}
+use Rattle.terms.specs.Bools.{implies}
+use Rattle.terms.specs.Lists.{all}
+use Rattle.correctness.specs.CorrectnessRules.{okIf, isBdu, sameBKV, andInput, orBInput, orDInput, orIInput, andOrInput}
+use Rattle.malleability.specs.MalleabilityRules as mall
 use Rattle.types.specs.TypeRules as rule
-use Rattle.types.specs.TypeOrder.{baseRank, baseOf}
+use Rattle.correctness.specs.Digits.{baseRank, baseOf}
 use Rattle.types.specs.Sanity.{sane, arises, arisesIfTyped}
-use Rattle.types.proofs.Finite.{and-l, and-r, and-i, Finite, bools, bases, inputs, dissats}
-use Rattle.types.proofs.PackLaws.{base-of}
+use Rattle.terms.proofs.Bools.{and-l, and-r, and-i}
+use Rattle.types.proofs.Finite.{Finite, bools, bases, inputs, dissats}
+use Rattle.correctness.proofs.Digits.{base-of}
 use Rattle.sanity.proofs.Kids.{pairs, law-1, law-2, law-3, Kid, kids, whole, kid, mallOf, ok, up, down}
 
 -- what arises passes the Rust's checks

@@ -7,20 +7,23 @@ use native.Mathlib.Omega.{arith}
 use lib.Dec.{eqb, leb, ltb}
 use lib.ListN.{length, length-map}
 use borrow.Author.Tests.{eqb-true, leb-true, eq-eqb, le-leb, lt-ltb}
-use Rattle.types.specs.declared.correctness.Base.the-variants.{B}
-use Rattle.types.specs.declared.correctness.Input.{Input}
-use Rattle.types.specs.declared.correctness.Input.the-variants.{Zero, One, Any, OneNonZero, AnyNonZero}
-use Rattle.types.specs.declared.correctness.Correctness.{Correctness}
-use Rattle.types.specs.declared.malleability.Malleability.{Malleability}
+use Rattle.correctness.specs.declared.Base.the-variants.{B}
+use Rattle.correctness.specs.declared.Input.{Input}
+use Rattle.correctness.specs.declared.Input.the-variants.{Zero, One, Any, OneNonZero, AnyNonZero}
+use Rattle.correctness.specs.declared.Correctness.{Correctness}
+use Rattle.malleability.specs.declared.Malleability.{Malleability}
 use Rattle.types.specs.declared.«Type».{«Type»}
 use Rattle.types.specs.declared.TypeResult.{TypeResult}
-use Rattle.types.specs.Letters.{isZero, isUnique, implies}
-use Rattle.types.specs.Lists.{all, sum, one, count}
-use Rattle.types.specs.CorrectnessRules.{firstB, numArgs, thresholdInput}
-use Rattle.types.specs.MalleabilityRules as mall
+use Rattle.correctness.specs.Letters.{isZero}
+use Rattle.malleability.specs.Letters.{isUnique}
+use Rattle.terms.specs.Bools.{implies}
+use Rattle.terms.specs.Lists.{all, sum, one, count}
+use Rattle.correctness.specs.CorrectnessRules.{firstB, numArgs, thresholdInput}
+use Rattle.malleability.specs.MalleabilityRules as mall
 use Rattle.types.specs.TypeRules as rule
 use Rattle.types.specs.Sanity.{arises, arisesIfTyped}
-use Rattle.types.proofs.Finite.{and-l, and-r, and-i, bases}
+use Rattle.terms.proofs.Bools.{and-l, and-r, and-i}
+use Rattle.types.proofs.Finite.{bases}
 use Rattle.sanity.proofs.Kids.{pairs, law-1, kids, whole, kid, mallOf, ok, up}
 use Rattle.sanity.proofs.Kept.{zero-of, if-met}
 

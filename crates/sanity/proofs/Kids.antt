@@ -1,17 +1,20 @@
 -- A type seen without its input but for z: what the pair and triple rules keep can be computed over these few. Assumes nothing.
 use mathlib.Core.Path.{_≡_, refl, ap, _∙_}
 use mathlib.Core.Bool.{Bool, true, false, cond, not, _&&_}
-use Rattle.types.specs.declared.correctness.Base.{Base}
-use Rattle.types.specs.declared.correctness.Base.the-variants.{B, K, «V», W}
-use Rattle.types.specs.declared.correctness.Input.{Input}
-use Rattle.types.specs.declared.malleability.Dissat.{Dissat}
-use Rattle.types.specs.declared.correctness.Correctness.{Correctness}
-use Rattle.types.specs.declared.malleability.Malleability.{Malleability}
+use Rattle.correctness.specs.declared.Base.{Base}
+use Rattle.correctness.specs.declared.Base.the-variants.{B, K, «V», W}
+use Rattle.correctness.specs.declared.Input.{Input}
+use Rattle.malleability.specs.declared.Dissat.{Dissat}
+use Rattle.correctness.specs.declared.Correctness.{Correctness}
+use Rattle.malleability.specs.declared.Malleability.{Malleability}
 use Rattle.types.specs.declared.«Type».{«Type»}
-use Rattle.types.specs.Letters.{isK, isV, isW, isZero, isAny, isNone, isUnique, implies}
-use Rattle.types.specs.CorrectnessRules.{correctness}
+use Rattle.correctness.specs.Letters.{isK, isV, isW, isZero, isAny}
+use Rattle.malleability.specs.Letters.{isNone, isUnique}
+use Rattle.terms.specs.Bools.{implies}
+use Rattle.correctness.specs.CorrectnessRules.{correctness}
 use Rattle.types.specs.Sanity.{saneCorr, sane, arises}
-use Rattle.types.proofs.Finite.{and-l, and-r, and-i, modus, Finite, bools, bases, inputs, dissats}
+use Rattle.terms.proofs.Bools.{and-l, and-r, and-i, modus}
+use Rattle.types.proofs.Finite.{Finite, bools, bases, inputs, dissats}
 
 -- every pair of values, and laws of one, two and three values
 

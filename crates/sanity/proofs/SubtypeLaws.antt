@@ -4,17 +4,24 @@ use mathlib.Core.Bool.{Bool, true, false, _&&_}
 use Prim.Native.Nat.{ℕ}
 use lib.Dec.{eqb}
 use borrow.Author.Tests.{eqb-true}
-use Rattle.types.specs.declared.correctness.Base.{Base}
-use Rattle.types.specs.declared.correctness.Input.{Input}
-use Rattle.types.specs.declared.correctness.Correctness.{Correctness}
-use Rattle.types.specs.declared.malleability.Dissat.{Dissat}
-use Rattle.types.specs.declared.malleability.Malleability.{Malleability}
+use Rattle.correctness.specs.declared.Base.{Base}
+use Rattle.correctness.specs.declared.Input.{Input}
+use Rattle.correctness.specs.declared.Correctness.{Correctness}
+use Rattle.malleability.specs.declared.Dissat.{Dissat}
+use Rattle.malleability.specs.declared.Malleability.{Malleability}
 use Rattle.types.specs.declared.«Type».{«Type»}
-use Rattle.types.specs.Letters.{baseEq, implies}
-use Rattle.types.specs.Subtype.{inputSub, dissatSub, corrSub, mallSub, typeSub}
-use Rattle.types.specs.TypeOrder.{baseRank, inputRank, dissatRank, boolRank, baseOf, inputOf, dissatOf, boolOf}
-use Rattle.types.proofs.Finite.{and-l, and-r, and-i, modus, Finite, bools, bases, inputs, dissats}
-use Rattle.types.proofs.PackLaws.{base-of, input-of, dissat-of, bool-of}
+use Rattle.correctness.specs.Letters.{baseEq}
+use Rattle.terms.specs.Bools.{implies, boolRank, boolOf}
+use Rattle.correctness.specs.Subtype.{inputSub, corrSub}
+use Rattle.malleability.specs.Subtype.{dissatSub, mallSub}
+use Rattle.types.specs.Subtype.{typeSub}
+use Rattle.correctness.specs.Digits.{baseRank, inputRank, baseOf, inputOf}
+use Rattle.malleability.specs.Digits.{dissatRank, dissatOf}
+use Rattle.terms.proofs.Bools.{and-l, and-r, and-i, modus}
+use Rattle.types.proofs.Finite.{Finite, bools, bases, inputs, dissats}
+use Rattle.correctness.proofs.Digits.{base-of, input-of}
+use Rattle.malleability.proofs.Digits.{dissat-of}
+use Rattle.terms.proofs.Bools.{bool-of}
 
 -- the three laws of a relation, computed over all values
 

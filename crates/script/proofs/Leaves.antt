@@ -7,8 +7,8 @@ use mathlib.Core.Logic.{inl, inr}
 use mathlib.Core.Path.{_≡_, refl, sym}
 use lib.IntN.{pos}
 use lib.ListN.{length, length-append}
-use Rattle.types.specs.declared.correctness.Base.the-variants.{B}
-use Rattle.types.specs.declared.correctness.Input.the-variants.{Any}
+use Rattle.correctness.specs.declared.Base.the-variants.{B}
+use Rattle.correctness.specs.declared.Input.the-variants.{Any}
 use Rattle.types.specs.TypeRules as rule
 use Rattle.terms.specs.declared.Context.{Context}
 use Rattle.trees.specs.Fragment.{False, True, PkK, PkH, Lock, Hash, Multi, MultiA}

@@ -4,7 +4,7 @@ use mathlib.Core.List.{[], _∷_, _++_}
 use mathlib.Core.Logic.{_⊎_, inl, inr}
 use mathlib.Core.Path.{_≡_}
 use lib.ListN.{length}
-use Rattle.types.specs.declared.correctness.Base.the-variants.{K, «V», W}
+use Rattle.correctness.specs.declared.Base.the-variants.{K, «V», W}
 use Rattle.types.specs.declared.«Type».{«Type»}
 use Rattle.terms.specs.declared.Context.{Context}
 use Rattle.trees.specs.Fragment.{Fragment}

@@ -7,14 +7,14 @@ use mathlib.Core.Logic.{inl}
 use mathlib.Core.Path.{_≡_, refl, sym}
 use lib.IntN.{ℤ, pos}
 use lib.ListN.{length, length-append}
-use Rattle.types.specs.declared.correctness.Base.{Base}
-use Rattle.types.specs.declared.correctness.Base.the-variants.{B, K, «V», W}
-use Rattle.types.specs.declared.correctness.Input.{Input}
-use Rattle.types.specs.declared.correctness.Input.the-variants.{Any, OneNonZero}
-use Rattle.types.specs.declared.correctness.Correctness.{Correctness}
+use Rattle.correctness.specs.declared.Base.{Base}
+use Rattle.correctness.specs.declared.Base.the-variants.{B, K, «V», W}
+use Rattle.correctness.specs.declared.Input.{Input}
+use Rattle.correctness.specs.declared.Input.the-variants.{Any, OneNonZero}
+use Rattle.correctness.specs.declared.Correctness.{Correctness}
 use Rattle.types.specs.declared.«Type».{«Type»}
-use Rattle.types.specs.Letters.{isB, isK, isV, isW, baseEq, isZero, isOne, isNonZero}
-use Rattle.types.specs.CorrectnessRules.{isBdu, sameBKV, orDInput, orIInput, andOrInput}
+use Rattle.correctness.specs.Letters.{isB, isK, isV, isW, baseEq, isZero, isOne, isNonZero}
+use Rattle.correctness.specs.CorrectnessRules.{isBdu, sameBKV, orDInput, orIInput, andOrInput}
 use Rattle.types.specs.TypeRules as rule
 use Rattle.terms.specs.declared.Context.{Context}
 use Rattle.script.specs.Numbers.{Bytes, Stack, isTrue, element, write, read, nonzero}

@@ -5,12 +5,12 @@ use mathlib.Core.Bool.{Bool, true, false, cond, _&&_, _||_, false≢true}
 use mathlib.Core.Logic.{_⊎_, inl, inr}
 use mathlib.Core.Path.{_≡_, refl}
 use lib.Dec.{eqb, eqb→eq}
-use Rattle.types.specs.declared.correctness.Base.{Base}
-use Rattle.types.specs.declared.correctness.Base.the-variants.{B, K, «V», W}
-use Rattle.types.specs.declared.correctness.Input.{Input}
-use Rattle.types.specs.declared.correctness.Input.the-variants.{Zero, One, Any, OneNonZero, AnyNonZero}
-use Rattle.types.specs.Letters.{isZero, isOne, isNonZero}
-use Rattle.types.specs.CorrectnessRules.{andInput, orBInput, orDInput, orIInput, andOrInput, numArgs, thresholdInput}
+use Rattle.correctness.specs.declared.Base.{Base}
+use Rattle.correctness.specs.declared.Base.the-variants.{B, K, «V», W}
+use Rattle.correctness.specs.declared.Input.{Input}
+use Rattle.correctness.specs.declared.Input.the-variants.{Zero, One, Any, OneNonZero, AnyNonZero}
+use Rattle.correctness.specs.Letters.{isZero, isOne, isNonZero}
+use Rattle.correctness.specs.CorrectnessRules.{andInput, orBInput, orDInput, orIInput, andOrInput, numArgs, thresholdInput}
 use Rattle.script.proofs.Round.{T-of}
 
 -- how many o removes: of K, whose signature is still below, none

@@ -4,15 +4,15 @@ use mathlib.Core.List.{[], _∷_, _++_}
 use mathlib.Core.Logic.{_⊎_, inl, inr}
 use mathlib.Core.Path.{_≡_, refl}
 use lib.ListN.{length}
-use Rattle.types.specs.declared.correctness.Base.{Base}
-use Rattle.types.specs.declared.correctness.Base.the-variants.{B, K, «V», W}
-use Rattle.types.specs.declared.correctness.Input.{Input}
-use Rattle.types.specs.declared.correctness.Correctness.{Correctness}
-use Rattle.types.specs.declared.malleability.Malleability.{Malleability}
+use Rattle.correctness.specs.declared.Base.{Base}
+use Rattle.correctness.specs.declared.Base.the-variants.{B, K, «V», W}
+use Rattle.correctness.specs.declared.Input.{Input}
+use Rattle.correctness.specs.declared.Correctness.{Correctness}
+use Rattle.malleability.specs.declared.Malleability.{Malleability}
 use Rattle.types.specs.declared.TypeResult.{TypeResult}
 use Rattle.types.specs.declared.TypeResult.the-variants.{Ok, IllTyped}
-use Rattle.types.specs.Letters.{isW, baseEq}
-use Rattle.types.specs.CorrectnessRules.{okIf}
+use Rattle.correctness.specs.Letters.{isW, baseEq}
+use Rattle.correctness.specs.CorrectnessRules.{okIf}
 use Rattle.types.specs.TypeRules.{typed}
 use Rattle.script.specs.Numbers.{Bytes, Stack, element}
 use Rattle.script.specs.Machine.{Outcomes, abort, Action, _then_}

@@ -6,13 +6,13 @@ use mathlib.Core.List.{List, [], _∷_, _++_, append-nil, map}
 use mathlib.Core.Path.{_≡_, refl}
 use lib.Dec.{leb, leb→le}
 use lib.ListN.{length, length-append}
-use Rattle.types.specs.declared.correctness.Base.the-variants.{B, W}
-use Rattle.types.specs.declared.correctness.Correctness.{Correctness}
+use Rattle.correctness.specs.declared.Base.the-variants.{B, W}
+use Rattle.correctness.specs.declared.Correctness.{Correctness}
 use Rattle.types.specs.declared.«Type».{«Type»}
 use Rattle.types.specs.declared.TypeResult.{TypeResult}
-use Rattle.types.specs.Letters.{isB, isW}
-use Rattle.types.specs.Lists.{all, sum}
-use Rattle.types.specs.CorrectnessRules.{firstB, numArgs}
+use Rattle.correctness.specs.Letters.{isB, isW}
+use Rattle.terms.specs.Lists.{all, sum}
+use Rattle.correctness.specs.CorrectnessRules.{firstB, numArgs}
 use Rattle.types.specs.TypeRules as rule
 use Rattle.types.specs.TypeRules.{typedIf, kOfN}
 use Rattle.terms.specs.declared.Context.{Context}

@@ -1,6 +1,6 @@
 -- The worked runs hold by computation.
 use mathlib.Core.Path.{refl}
-use Rattle.types.specs.Lists.{all, sum}
+use Rattle.terms.specs.Lists.{all, sum}
 use Rattle.terms.specs.declared.Context.{Context}
 use Rattle.trees.specs.Typing.{typeOf, typesOf}
 use Rattle.script.specs.Numbers.{isTrue, element, same, read, magnitude, negative, write, digits, signed, nonzero, equal}

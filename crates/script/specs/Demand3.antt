@@ -7,10 +7,10 @@ use mathlib.Core.Logic.{_⊎_}
 use mathlib.Core.Option.{some}
 use mathlib.Core.Path.{_≡_}
 use lib.ListN.{length}
-use Rattle.types.specs.declared.correctness.Base.the-variants.{B}
+use Rattle.correctness.specs.declared.Base.the-variants.{B}
 use Rattle.types.specs.declared.«Type».{«Type»}
 use Rattle.types.specs.declared.TypeResult.the-variants.{Ok}
-use Rattle.types.specs.Letters.{isZero, isOne}
+use Rattle.correctness.specs.Letters.{isZero, isOne}
 use Rattle.terms.specs.declared.Context.{Context}
 use Rattle.trees.specs.Fragment.{Fragment}
 use Rattle.trees.specs.Typing.{typeOf}

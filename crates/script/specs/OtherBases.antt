@@ -5,10 +5,10 @@ use mathlib.Core.List.{[], _∷_, _++_}
 use mathlib.Core.Logic.{_⊎_}
 use mathlib.Core.Path.{_≡_}
 use lib.ListN.{length}
-use Rattle.types.specs.declared.correctness.Base.the-variants.{K, «V», W}
+use Rattle.correctness.specs.declared.Base.the-variants.{K, «V», W}
 use Rattle.types.specs.declared.«Type».{«Type»}
 use Rattle.types.specs.declared.TypeResult.the-variants.{Ok}
-use Rattle.types.specs.Letters.{isZero, isOne}
+use Rattle.correctness.specs.Letters.{isZero, isOne}
 use Rattle.terms.specs.declared.Context.{Context}
 use Rattle.trees.specs.Fragment.{Fragment}
 use Rattle.terms.specs.Leaves.{Hash160}

@@ -7,7 +7,7 @@ use native.Mathlib.Omega.{arith}
 use lib.ListN.{length, take, drop, set}
 use lib.Seq.{take-suc-set, length-take-le}
 use Rattle.terms.specs.declared.Context.{Context}
-use Rattle.types.specs.declared.correctness.Base.the-variants.{W}
+use Rattle.correctness.specs.declared.Base.the-variants.{W}
 use Rattle.policies.specs.Policy.{Policy, fromList}
 use Rattle.policies.specs.Forms.{childrenOf, nth}
 use Rattle.writing.specs.WellFormed.{AllBelow}

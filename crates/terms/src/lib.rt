@@ -1,4 +1,5 @@
-// The words that policies and fragments share: the two script contexts, and, in specs/Leaves.antt, the kinds of locks and hashes.
+// What policies, fragments and types share: the two script contexts, and, in specs, the kinds of locks and hashes (Leaves.antt) and what is
+// said of bools and of lists (Bools.antt, Lists.antt).
 
 // A script context, under the Rust's name: SegWit v0 is document 01's number 0, Tapscript its number 1.
 pub enum Context {

@@ -1,27 +1,8 @@
 -- A test that holds of each variant holds of every value: how a law over a declared enum is computed. Assumes nothing.
-use mathlib.Core.Path.{_≡_, refl, ap, _∙_}
-use mathlib.Core.Bool.{Bool, true, false, cond, not, _&&_, _||_}
+use mathlib.Core.Path.{_≡_}
+use mathlib.Core.Bool.{Bool, true, false, _&&_}
 use Rattle.types.specs.Names.{Base, B, K, «V», W, Input, Zero, One, Any, OneNonZero, AnyNonZero, Dissat, None, Unique, Unknown}
-use Rattle.types.specs.Letters.{implies}
-
-pub and-l : (a b : Bool) → a && b ≡ true → a ≡ true
-and-l true b h = refl
-and-l false b h = h
-
-pub and-r : (a b : Bool) → a && b ≡ true → b ≡ true
-and-r true b h = h
-and-r false b h = ap (λ (x : Bool). cond x true b) h
-
-pub and-i : (a b : Bool) → a ≡ true → b ≡ true → a && b ≡ true
-and-i a b h k = rw (h, k)
-
-pub modus : (a b : Bool) → implies a b ≡ true → a ≡ true → b ≡ true
-modus true b h k = h
-modus false b h k = ap (λ (x : Bool). cond x true b) k
-
-pub or-implies : (a b : Bool) → not a || b ≡ implies a b
-or-implies true b = refl
-or-implies false b = refl
+use Rattle.terms.proofs.Bools.{and-l, and-r}
 
 -- the values of A can be gone through
 pub record Finite (A : Type 0) : Type 1 where

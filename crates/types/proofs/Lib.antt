@@ -1,5 +1,3 @@
-pub mod Arms
-pub mod Inputs
 pub mod Threshold
 pub mod Finite
 pub mod PackLaws

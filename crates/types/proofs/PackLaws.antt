@@ -7,35 +7,14 @@ use native.Mathlib.Omega.{arith}
 use lib.Dec.{ltb, eqb}
 use mir.Val.{boolByte}
 use borrow.Author.Tests.{lt-ltb, le-ltb, ltb-true, ltb-false}
-use Rattle.types.specs.Names.{Base, B, K, «V», W, Input, Zero, One, Any, OneNonZero, AnyNonZero, Dissat, None, Unique, Unknown}
 use Rattle.types.specs.Names.{Correctness, Malleability, «Type», Ordering, Less, Equal, Greater, Unpacked, Is, NotAType}
-use Rattle.types.specs.Letters.{baseEq}
-use Rattle.types.specs.TypeOrder.{baseRank, inputRank, dissatRank, boolRank, cmpRank, andThen, cmpCorr, cmpMall, cmpType}
-use Rattle.types.specs.TypeOrder.{packCorr, pack, baseOf, inputOf, dissatOf, boolOf, unpackCorr, unpackMall, unpack}
-
--- each rank is a digit, and stands for its variant
-
-pub base-lt : (b : Base) → baseRank b < 4
-base-lt B = omega arith
-base-lt K = omega arith
-base-lt «V» = omega arith
-base-lt W = omega arith
-
-pub input-lt : (i : Input) → inputRank i < 5
-input-lt Zero = omega arith
-input-lt One = omega arith
-input-lt Any = omega arith
-input-lt OneNonZero = omega arith
-input-lt AnyNonZero = omega arith
-
-pub dissat-lt : (x : Dissat) → dissatRank x < 3
-dissat-lt None = omega arith
-dissat-lt Unique = omega arith
-dissat-lt Unknown = omega arith
-
-bool-lt : (b : Bool) → boolRank b < 2
-bool-lt false = omega arith
-bool-lt true = omega arith
+use Rattle.correctness.specs.Digits.{baseRank, inputRank, packCorr, unpackCorr}
+use Rattle.malleability.specs.Digits.{dissatRank, unpackMall}
+use Rattle.terms.specs.Bools.{boolRank}
+use Rattle.terms.proofs.Bools.{bool-lt, bool-of}
+use Rattle.correctness.proofs.Digits.{base-lt, input-lt, base-of, input-of}
+use Rattle.malleability.proofs.Digits.{dissat-lt, dissat-of}
+use Rattle.types.specs.TypeOrder.{cmpRank, andThen, cmpCorr, cmpMall, cmpType, pack, unpack}
 
 -- the number that the code casts a bool to
 pub bool-byte : (b : Bool) → boolByte b ≡ boolRank b
@@ -67,47 +46,6 @@ digits t b i x hb hi hx =
       below-s = byte-lt (t .mall .safe);
       below-m = byte-lt (t .mall .«non_malleable»);
     }
-
-pub base-of : (b : Base) → baseOf (baseRank b) ≡ b
-base-of B = refl
-base-of K = refl
-base-of «V» = refl
-base-of W = refl
-
-pub input-of : (i : Input) → inputOf (inputRank i) ≡ i
-input-of Zero = refl
-input-of One = refl
-input-of Any = refl
-input-of OneNonZero = refl
-input-of AnyNonZero = refl
-
-pub dissat-of : (x : Dissat) → dissatOf (dissatRank x) ≡ x
-dissat-of None = refl
-dissat-of Unique = refl
-dissat-of Unknown = refl
-
-pub bool-of : (b : Bool) → boolOf (boolRank b) ≡ b
-bool-of false = refl
-bool-of true = refl
-
--- two bases are one where their ranks are
-pub base-eq : (a b : Base) → eqb (baseRank a) (baseRank b) ≡ baseEq a b
-base-eq B B = refl
-base-eq B K = refl
-base-eq B «V» = refl
-base-eq B W = refl
-base-eq K B = refl
-base-eq K K = refl
-base-eq K «V» = refl
-base-eq K W = refl
-base-eq «V» B = refl
-base-eq «V» K = refl
-base-eq «V» «V» = refl
-base-eq «V» W = refl
-base-eq W B = refl
-base-eq W K = refl
-base-eq W «V» = refl
-base-eq W W = refl
 
 -- a number of two digits orders as its first digit does and then its second
 

@@ -12,12 +12,14 @@ use lib.Seq.{drop-cons, length-take-le}
 use borrow.Author.Tests.{le-leb, lt-leb, lt-ltb}
 use Rattle.types.specs.Names.{Correctness, Malleability, «Type», TypeResult, IllTyped}
 use Rattle.types.specs.declared.TypeSoFar.{TypeSoFar}
-use Rattle.types.specs.Letters.{isB, isW, isUnique}
-use Rattle.types.specs.Lists.{all, sum, one, count}
-use Rattle.types.specs.CorrectnessRules.{numArgs, thresholdInput, orBInput}
+use Rattle.correctness.specs.Letters.{isB, isW}
+use Rattle.malleability.specs.Letters.{isUnique}
+use Rattle.terms.specs.Lists.{all, sum, one, count}
+use Rattle.correctness.specs.CorrectnessRules.{numArgs, thresholdInput, orBInput}
 use Rattle.types.specs.TypeRules.{typedIf, kOfN, threshold, thresholdOf}
-use Rattle.types.specs.ThresholdSteps.{counted, typeFirst, typeNext, typeResult, after}
-use Rattle.types.proofs.Inputs.{count-input}
+use Rattle.malleability.specs.ThresholdSteps.{counted}
+use Rattle.types.specs.ThresholdSteps.{typeFirst, typeNext, typeResult, after}
+use Rattle.correctness.proofs.Inputs.{count-input}
 
 exchange : (a b c d : Bool) → (a && b) && (c && d) ≡ (a && c) && (b && d)
 exchange false b c d = refl

@@ -1,8 +1,4 @@
 pub mod Names
-pub mod Letters
-pub mod Lists
-pub mod CorrectnessRules
-pub mod MalleabilityRules
 pub mod TypeRules
 pub mod ThresholdSteps
 pub mod Subtype

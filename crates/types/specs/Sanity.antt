@@ -1,7 +1,9 @@
 -- The checks that every type of a fragment passes, from `sanity_checks` in types/correctness.rs and types/mod.rs.
 use mathlib.Core.Bool.{Bool, true, false, not, _&&_, _||_}
 use Rattle.types.specs.Names.{Correctness, «Type», TypeResult, Ok, IllTyped}
-use Rattle.types.specs.Letters.{isK, isV, isW, isZero, isNonZero, isAny, isNone, isUnique, implies}
+use Rattle.correctness.specs.Letters.{isK, isV, isW, isZero, isNonZero, isAny}
+use Rattle.malleability.specs.Letters.{isNone, isUnique}
+use Rattle.terms.specs.Bools.{implies}
 
 abbrev pub saneCorr : Correctness → Bool
 saneCorr c =

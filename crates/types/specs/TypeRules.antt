@@ -5,9 +5,9 @@ use Prim.Native.Nat.{ℕ}
 use lib.Dec.{leb}
 use lib.ListN.{length, take}
 use Rattle.types.specs.Names.{Malleability, CorrectnessResult, «Type», TypeResult, Ok, IllTyped}
-use Rattle.types.specs.declared.correctness.CorrectnessResult.the-variants as Corr
-use Rattle.types.specs.CorrectnessRules as corr
-use Rattle.types.specs.MalleabilityRules as mall
+use Rattle.correctness.specs.declared.CorrectnessResult.the-variants as Corr
+use Rattle.correctness.specs.CorrectnessRules as corr
+use Rattle.malleability.specs.MalleabilityRules as mall
 
 abbrev pub typed : CorrectnessResult → Malleability → TypeResult
 typed (Corr.Ok c) m = Ok (record { corr = c; mall = m })

@@ -7,19 +7,13 @@ ghost use Rattle.types.specs.TypeRules.{castAlt, castSwap, castCheck, ca
 ghost use Rattle.types.specs.TypeRules.{castZeronotequal, castTrue, castUnlikely, castLikely};
 ghost use Rattle.types.specs.TypeRules.{andB, andV, orB, orD, orC, orI, andOr, thresholdOf};
 ghost use Rattle.types.specs.ThresholdSteps.{typeFirst, typeNext, typeResult};
+use correctness::Correctness;
+use correctness::CorrectnessResult;
+use correctness::CorrectnessSoFar;
+use malleability::Malleability;
+use malleability::MalleabilitySoFar;
 
-pub mod correctness;
-pub mod malleability;
 pub mod order;
-
-pub use correctness::Base;
-pub use correctness::Correctness;
-pub use correctness::CorrectnessResult;
-pub use correctness::CorrectnessSoFar;
-pub use correctness::Input;
-pub use malleability::Dissat;
-pub use malleability::Malleability;
-pub use malleability::MalleabilitySoFar;
 
 // The type of a fragment: its correctness and its malleability properties.
 pub struct Type {

@@ -1,96 +1,14 @@
 // The derived order of types, and the number that packs a type in that order. The contracts cite specs/TypeOrder.antt.
 ghost use mathlib.Core.Path.{_≡_};
-ghost use Rattle.types.specs.TypeOrder.{baseRank, inputRank, dissatRank, cmpRank, cmpType};
-ghost use Rattle.types.specs.TypeOrder.{pack, baseOf, inputOf, dissatOf, unpackCorr, unpackMall, unpack};
-use crate::Base;
-use crate::Correctness;
-use crate::Dissat;
-use crate::Input;
-use crate::Malleability;
+ghost use Rattle.types.specs.TypeOrder.{cmpRank, cmpType, pack, unpack};
 use crate::Ordering;
 use crate::Type;
 use crate::Unpacked;
+use correctness::Correctness;
+use malleability::Malleability;
 
 // How many types there are.
 const TYPES: u32 = 960;
-
-impl Base {
-    // The place of this base among the four.
-    pub fn rank(self) -> u8
-        ensures { λ r. ⌜ r ≡ baseRank self ⌝ }
-    {
-        match self {
-            Base::B => 0,
-            Base::K => 1,
-            Base::V => 2,
-            Base::W => 3,
-        }
-    }
-}
-
-impl Input {
-    // The place of this input among the five.
-    pub fn rank(self) -> u8
-        ensures { λ r. ⌜ r ≡ inputRank self ⌝ }
-    {
-        match self {
-            Input::Zero => 0,
-            Input::One => 1,
-            Input::Any => 2,
-            Input::OneNonZero => 3,
-            Input::AnyNonZero => 4,
-        }
-    }
-}
-
-impl Dissat {
-    // The place of this dissat among the three.
-    pub fn rank(self) -> u8
-        ensures { λ r. ⌜ r ≡ dissatRank self ⌝ }
-    {
-        match self {
-            Dissat::None => 0,
-            Dissat::Unique => 1,
-            Dissat::Unknown => 2,
-        }
-    }
-}
-
-// The base of a digit.
-fn base_of(n: u32) -> Base
-    ensures { λ r. ⌜ r ≡ baseOf n ⌝ }
-{
-    match n {
-        0 => Base::B,
-        1 => Base::K,
-        2 => Base::V,
-        _ => Base::W,
-    }
-}
-
-// The input of a digit.
-fn input_of(n: u32) -> Input
-    ensures { λ r. ⌜ r ≡ inputOf n ⌝ }
-{
-    match n {
-        0 => Input::Zero,
-        1 => Input::One,
-        2 => Input::Any,
-        3 => Input::OneNonZero,
-        _ => Input::AnyNonZero,
-    }
-}
-
-// The dissat of a digit.
-fn dissat_of(n: u32) -> Dissat
-    ensures { λ r. ⌜ r ≡ dissatOf n ⌝ }
-{
-    match n {
-        0 => Dissat::None,
-        1 => Dissat::Unique,
-        _ => Dissat::Unknown,
-    }
-}
 
 // How two packed numbers stand.
 fn cmp_rank(a: u32, b: u32) -> Ordering
@@ -103,40 +21,6 @@ fn cmp_rank(a: u32, b: u32) -> Ordering
             Ordering::Greater
         } else {
             Ordering::Equal
-        }
-    }
-}
-
-impl Correctness {
-    // The correctness of the first four digits.
-    fn unpack(n: u32) -> Self
-        ensures { λ r. ⌜ r ≡ unpackCorr n ⌝ }
-    {
-        let base = base_of(n / 20);
-        let input = input_of(n / 4 % 5);
-        let dissatisfiable = n / 2 % 2 == 1;
-        let unit = n % 2 == 1;
-        Correctness {
-            base,
-            input,
-            dissatisfiable,
-            unit,
-        }
-    }
-}
-
-impl Malleability {
-    // The malleability of the last three digits.
-    fn unpack(n: u32) -> Self
-        ensures { λ r. ⌜ r ≡ unpackMall n ⌝ }
-    {
-        let dissat = dissat_of(n / 4);
-        let safe = n / 2 % 2 == 1;
-        let non_malleable = n % 2 == 1;
-        Malleability {
-            dissat,
-            safe,
-            non_malleable,
         }
     }
 }

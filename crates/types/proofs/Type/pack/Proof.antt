@@ -1,5 +1,7 @@
 use native.Mathlib.Omega.{arith}
-use Rattle.types.proofs.PackLaws.{base-lt, input-lt, dissat-lt, bool-byte, Digits, digits}
+use Rattle.correctness.proofs.Digits.{base-lt, input-lt}
+use Rattle.malleability.proofs.Digits.{dissat-lt}
+use Rattle.types.proofs.PackLaws.{bool-byte, Digits, digits}
 use Rattle.types.proofs.Type.pack.Statement.{statement}
 use Rattle.types.proofs.Type.pack.Tie as tie
 
