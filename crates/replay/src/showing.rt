@@ -1,42 +1,9 @@
 // What the replay writes to standard output. Its functions are safe and end; no contract can say what they write.
-ghost use Prim.Native.Nat.{_<_};
-use crate::Tally;
-use crate::Verdict;
 use libc::STDOUT_FILENO;
-
-// The upper-case hexadecimal digit of a value.
-fn digit(d: u8) -> u8
-    requires { ⌜ d < 16 ⌝ }
-{
-    if d < 10 { 48 + d } else { 55 + d }
-}
-
-fn show_byte(b: u8) {
-    let text = [digit(b / 16), digit(b % 16)];
-    io::write_all(STDOUT_FILENO, &text);
-}
-
-// Records as the list has them.
-fn show_records(s: &[u8]) {
-    if s.len() == 0 {
-        io::write_all(STDOUT_FILENO, b"-");
-        return;
-    }
-    let mut i = 0;
-    while i < s.len() {
-        show_byte(s[i]);
-        i += 1;
-    }
-}
-
-// 64 bits as the list has them.
-fn show_bits(w: u64) {
-    let mut place: u64 = 72_057_594_037_927_936;
-    while 0 < place {
-        show_byte((w / place % 256) as u8);
-        place /= 256;
-    }
-}
+use lines::show_bits;
+use lines::show_records;
+use verdicts::Tally;
+use verdicts::Verdict;
 
 fn show_place(n: u64) {
     io::write_all(STDOUT_FILENO, b"line ");

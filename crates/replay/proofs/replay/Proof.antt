@@ -3,7 +3,7 @@ use mathlib.Core.Path.{_≡_, _∙_}
 use Prim.Native.Nat.{_-_}
 use borrow.Author.Needs.{needs}
 use lib.ListN.{length}
-use Rattle.replay.proofs.Tallies.{Going, Kept, part-short, kept-first, going-first, counts-small, counts-all, going-next}
+use Rattle.verdicts.proofs.Tallies.{Going, Kept, part-short, kept-first, going-first, counts-small, counts-all, going-next}
 use native.Mathlib.Omega.{arith}
 use Rattle.replay.proofs.replay.Statement.{statement}
 use Rattle.replay.proofs.replay.Tie as tie
@@ -25,17 +25,17 @@ loop-holds c =
 end-of-requires : tie.Need-end-of-requires Inv-loop μ-loop
 end-of-requires c κs = c .loop .inv .0 .within
 
-sub-verdict : tie.Need-sub-verdict Inv-loop μ-loop
-sub-verdict c = c .end-of .ensures .after
+sub-judge-line : tie.Need-sub-judge-line Inv-loop μ-loop
+sub-judge-line c = c .end-of .ensures .after
 
-part-verdict-start : tie.Need-part-verdict-start Inv-loop μ-loop
-part-verdict-start c = search needs
+part-judge-line-start : tie.Need-part-judge-line-start Inv-loop μ-loop
+part-judge-line-start c = search needs
 
-part-verdict-end : tie.Need-part-verdict-end Inv-loop μ-loop
-part-verdict-end c = search needs
+part-judge-line-end : tie.Need-part-judge-line-end Inv-loop μ-loop
+part-judge-line-end c = search needs
 
-verdict-requires : tie.Need-verdict-requires Inv-loop μ-loop
-verdict-requires c κs =
+judge-line-requires : tie.Need-judge-line-requires Inv-loop μ-loop
+judge-line-requires c κs =
     let args = c .before .before .before .before .before .before .before .before .before .before .before .before .args in
     let pre = c .before .before .before .before .before .before .before .before .before .before .before .before .pre in
     let loop = c .before .before .before .before .before .before .loop in
@@ -59,32 +59,32 @@ same-length : tie.Need-same-length Inv-loop μ-loop
 same-length c =
     let early = c .before .before .before .before .before .before .before .before .before .before .before .before in
     let loop = early .before .before .before .before .before .before .before .loop in
-    let verdict = c .before .before .before .before .before .before .before .before .before .before .before .before .verdict in
-    let kept : length (verdict .last .1 .0) ≡ length (loop .policy) = search needs in
+    let judge-line = c .before .before .before .before .before .before .before .before .before .before .before .before .judge-line in
+    let kept : length (judge-line .last .1 .0) ≡ length (loop .policy) = search needs in
     kept ∙ loop .inv .1 .policies
 
 same-length-2 : tie.Need-same-length-2 Inv-loop μ-loop
 same-length-2 c =
     let early = c .before .before .before .before .before .before .before .before .before .before .before .before in
     let loop = early .before .before .before .before .before .before .before .loop in
-    let verdict = c .before .before .before .before .before .before .before .before .before .before .before .before .verdict in
-    let kept : length (verdict .last .1 .1 .0) ≡ length (loop .stored) = search needs in
+    let judge-line = c .before .before .before .before .before .before .before .before .before .before .before .before .judge-line in
+    let kept : length (judge-line .last .1 .1 .0) ≡ length (loop .stored) = search needs in
     kept ∙ loop .inv .1 .outputs
 
 same-length-3 : tie.Need-same-length-3 Inv-loop μ-loop
 same-length-3 c =
     let early = c .before .before .before .before .before .before .before .before .before .before .before .before in
     let loop = early .before .before .before .before .before .before .before .loop in
-    let verdict = c .before .before .before .before .before .before .before .before .before .before .before .before .verdict in
-    let kept : length (verdict .last .1 .1 .1 .0) ≡ length (loop .out) = search needs in
+    let judge-line = c .before .before .before .before .before .before .before .before .before .before .before .before .judge-line in
+    let kept : length (judge-line .last .1 .1 .1 .0) ≡ length (loop .out) = search needs in
     kept ∙ loop .inv .1 .room
 
 same-length-4 : tie.Need-same-length-4 Inv-loop μ-loop
 same-length-4 c =
     let early = c .before .before .before .before .before .before .before .before .before .before .before .before in
     let loop = early .before .before .before .before .before .before .before .loop in
-    let verdict = c .before .before .before .before .before .before .before .before .before .before .before .before .verdict in
-    let kept : length (verdict .last .1 .1 .1 .1 .0) ≡ length (loop .work) = search needs in
+    let judge-line = c .before .before .before .before .before .before .before .before .before .before .before .before .judge-line in
+    let kept : length (judge-line .last .1 .1 .1 .1 .0) ≡ length (loop .work) = search needs in
     kept ∙ loop .inv .1 .whole
 
 returns : tie.Need-returns Inv-loop μ-loop
@@ -93,11 +93,11 @@ returns c =
     let args = early .before .before .before .before .before .before .before .before .before .before .before .before .before .args in
     let loop = early .before .before .before .before .before .before .before .loop in
     let end-of = early .before .before .before .before .before .before .end-of in
-    let verdict = c .before .before .before .before .before .before .before .before .before .before .before .before .verdict in
+    let judge-line = c .before .before .before .before .before .before .before .before .before .before .before .before .judge-line in
     let counted = c .before .counted in
     let if1 = c .if1 in
     counts-all (args .text .now) (length (args .out .now)) (loop .t) (loop .at) (loop .n) (loop .inv .0) (end-of .result)
-    (end-of .ensures) (length (loop .out)) (loop .inv .1 .room) (verdict .result) (verdict .ensures .verdict) (counted .result)
+    (end-of .ensures) (length (loop .out)) (loop .inv .1 .room) (judge-line .result) (judge-line .ensures .verdict) (counted .result)
     (counted .ensures) (if1 .taken)
 
 add-at : tie.Need-add-at Inv-loop μ-loop
@@ -127,16 +127,16 @@ loop-again c =
     let args = early .before .before .before .before .before .before .before .before .before .before .before .before .before .args in
     let loop = early .before .before .before .before .before .before .before .loop in
     let end-of = early .before .before .before .before .before .before .end-of in
-    let verdict = c .before .before .before .before .before .before .before .before .before .before .before .before .verdict in
+    let judge-line = c .before .before .before .before .before .before .before .before .before .before .before .before .judge-line in
     let counted = c .before .counted in
     let if1 = c .if1 in
-    let policy : length (verdict .last .1 .0) ≡ length (loop .policy) = search needs in
-    let stored : length (verdict .last .1 .1 .0) ≡ length (loop .stored) = search needs in
-    let out : length (verdict .last .1 .1 .1 .0) ≡ length (loop .out) = search needs in
-    let work : length (verdict .last .1 .1 .1 .1 .0) ≡ length (loop .work) = search needs in
+    let policy : length (judge-line .last .1 .0) ≡ length (loop .policy) = search needs in
+    let stored : length (judge-line .last .1 .1 .0) ≡ length (loop .stored) = search needs in
+    let out : length (judge-line .last .1 .1 .1 .0) ≡ length (loop .out) = search needs in
+    let work : length (judge-line .last .1 .1 .1 .1 .0) ≡ length (loop .work) = search needs in
     let kept = loop .inv .1 in (
       going-next (args .text .now) (length (args .out .now)) (loop .t) (loop .at) (loop .n) (loop .inv .0) (end-of .result)
-          (end-of .ensures) (length (loop .out)) (loop .inv .1 .room) (verdict .result) (verdict .ensures .verdict) (counted .result)
+          (end-of .ensures) (length (loop .out)) (loop .inv .1 .room) (judge-line .result) (judge-line .ensures .verdict) (counted .result)
           (counted .ensures) (if1 .left),
       record
           { policies = policy ∙ kept .policies; outputs = stored ∙ kept .outputs; room = out ∙ kept .room; whole = work ∙ kept .whole },
@@ -150,10 +150,10 @@ replay-spec =
     μ-loop
     loop-holds
     end-of-requires
-    sub-verdict
-    part-verdict-start
-    part-verdict-end
-    verdict-requires
+    sub-judge-line
+    part-judge-line-start
+    part-judge-line-end
+    judge-line-requires
     show-requires
     counted-requires
     same-length

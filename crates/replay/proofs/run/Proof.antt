@@ -3,7 +3,7 @@ use Prim.Native.Nat.{ℕ}
 use mathlib.Core.Path.{refl, sym}
 use lib.Dec.{lit≤}
 use lib.ListN.{length-replicate}
-use Rattle.replay.proofs.Tallies.{lent-zeros}
+use Rattle.verdicts.proofs.Tallies.{lent-zeros}
 use Rattle.replay.proofs.run.Statement.{statement}
 use Rattle.replay.proofs.run.Tie as tie
 

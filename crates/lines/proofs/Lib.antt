@@ -1,0 +1,4 @@
+-- Why the reading of a line is right.
+pub mod Splits
+pub mod Pairs
+pub mod Cases

@@ -1,0 +1,3 @@
+-- What a reader of the lines must believe.
+pub mod Lines
+pub mod Reads

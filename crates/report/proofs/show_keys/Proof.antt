@@ -1,0 +1,59 @@
+-- `report::show_keys` is safe and ends: there are 16 turns. Assumes nothing.
+use borrow.Author.Needs.{needs}
+use Prim.Native.Nat.{_≤_, _-_}
+use native.Mathlib.Omega.{arith}
+use Rattle.report.proofs.show_keys.Statement.{statement}
+use Rattle.report.proofs.show_keys.Tie as tie
+
+abbrev Inv-loop : tie.InvT-loop
+Inv-loop bytes count whole₀ i₀ whole i = i ≤ 16
+
+abbrev μ-loop : tie.MeasureT-loop
+μ-loop bytes count whole₀ i₀ whole i = 16 - i
+
+loop-holds : tie.Need-loop-holds Inv-loop μ-loop
+loop-holds c = search needs
+
+mul-u32-or-zero : tie.Need-mul-u32-or-zero Inv-loop μ-loop
+mul-u32-or-zero c = search needs
+
+add-u32-or-zero : tie.Need-add-u32-or-zero Inv-loop μ-loop
+add-u32-or-zero c = search needs
+
+u32-or-zero-requires : tie.Need-u32-or-zero-requires Inv-loop μ-loop
+u32-or-zero-requires c κs = tt
+
+cast-say-number : tie.Need-cast-say-number Inv-loop μ-loop
+cast-say-number c = search needs
+
+say-number-requires : tie.Need-say-number-requires Inv-loop μ-loop
+say-number-requires c κs = tt
+
+add-i : tie.Need-add-i Inv-loop μ-loop
+add-i c = search needs
+
+loop-less : tie.Need-loop-less Inv-loop μ-loop
+loop-less c = search needs
+
+loop-again : tie.Need-loop-again Inv-loop μ-loop
+loop-again c = search needs
+
+returns : tie.Need-returns Inv-loop μ-loop
+returns c = tt
+
+pub show-keys-spec : {M : Type 1} → statement M
+show-keys-spec =
+    tie.close
+    (tie.spec
+    Inv-loop
+    μ-loop
+    loop-holds
+    mul-u32-or-zero
+    add-u32-or-zero
+    u32-or-zero-requires
+    cast-say-number
+    say-number-requires
+    add-i
+    loop-less
+    loop-again
+    returns)

@@ -1,0 +1,212 @@
+// The answers of compile and of the tree check as lines of standard output. What is not public answers whether all of its text was written; where
+// not, the public functions say so on standard error.
+//
+// Every function is safe and ends. No contract can say what is written to a descriptor.
+use libc::STDOUT_FILENO;
+use names::answer_name;
+use names::close_up;
+use names::correctness_letters;
+use names::kind_name;
+use names::malleability_letters;
+use records::KindShape;
+use records::Parts;
+use records::RecordLength;
+use records::Shape;
+use types::Type;
+use types::Unpacked;
+
+// Writes a text.
+fn say(text: &[u8]) -> bool {
+    io::write_all(STDOUT_FILENO, text)
+}
+
+// Writes a space and a number.
+fn say_number(n: u64) -> bool {
+    let spaced = say(b" ");
+    io::print_decimal(STDOUT_FILENO, n) & spaced
+}
+
+// Writes a word and a number as a line.
+fn say_line(word: &[u8], n: u64) -> bool {
+    let said = say(word);
+    let numbered = say_number(n);
+    say(b"\n") & said & numbered
+}
+
+// Writes what stands in the places of a row.
+fn say_places(places: &mut [u8]) -> bool {
+    let n = close_up(places);
+    say(&places[..n])
+}
+
+// The line of an answer: document 01's number and its name.
+fn show_number(number: u32) -> bool {
+    let mut name = answer_name(number);
+    let numbered = io::print_decimal(STDOUT_FILENO, number as u64);
+    let spaced = say(b" ");
+    let named = say_places(&mut name);
+    say(b"\n") & numbered & spaced & named
+}
+
+// The line that says what a refusal means.
+fn show_meaning(number: u32) -> bool {
+    match number {
+        1 => say(b"the context is neither 0, SegWit v0, nor 1, Tapscript\n"),
+        2 => say(b"the work memory has another length\n"),
+        3 => say(b"the policy has no record, or one breaks the form\n"),
+        4 => say(b"a weight of an Or is 0\n"),
+        5 => say(b"the policy has more than 64 records, or is deeper than 16\n"),
+        6 => say(b"the search accepts a 65535th candidate\n"),
+        7 => say(b"a table of the search would have 129 entries\n"),
+        8 => say(b"the search would remember a 2049th table\n"),
+        9 => say(b"one closure of casts would take a 4097th element\n"),
+        10 => say(
+            b"a cost to be compared is not a number or has its sign bit set, or a needed one is missing\n",
+        ),
+        11 => say(b"a table of the search is empty, or none of its entries suits\n"),
+        12 => say(b"the chosen fragment is not safe: it can be satisfied without a signature\n"),
+        13 => say(b"the records of the tree do not fit, or are more than 4096\n"),
+        14 => say(b"the tree has no record, or one breaks the form\n"),
+        15 => say(
+            b"the tree breaks a type rule, or has Multi in context 1 or MultiA in context 0\n",
+        ),
+        16 => say(b"the tree has more than 4096 records\n"),
+        _ => true,
+    }
+}
+
+// The lines of what a compilation gives, but for the tree.
+fn show_given(bytes: u64, cost: u64, nodes: u64) -> bool {
+    let first = say_line(b"bytes", bytes);
+    let second = say(b"cost ");
+    let digits = io::print_hex(STDOUT_FILENO, cost, 16);
+    let ended = say(b"\n");
+    say_line(b"nodes", nodes) & first & second & digits & ended
+}
+
+// The line of a type.
+fn show_type(t: Type) -> bool {
+    let mut corr = correctness_letters(t.corr);
+    let mut mall = malleability_letters(t.mall);
+    let worded = say(b"type ");
+    let first = say_places(&mut corr);
+    let spaced = say(b" ");
+    let second = say_places(&mut mall);
+    say(b"\n") & worded & first & spaced & second
+}
+
+// The first `count` of a record's children.
+fn show_children(children: [u16; 16], count: usize) -> bool {
+    let mut whole = true;
+    let mut i = 0;
+    while i < 16 {
+        if i < count {
+            let said = say_number(children[i] as u64);
+            whole = whole & said;
+        }
+        i += 1;
+    }
+    whole
+}
+
+// The first `count` of a record's keys.
+fn show_keys(bytes: &[u8], count: usize) -> bool {
+    let mut whole = true;
+    let mut i = 0;
+    while i < 16 {
+        if i < count {
+            let said = say_number(records::u32_or_zero(bytes, 8 + 4 * i) as u64);
+            whole = whole & said;
+        }
+        i += 1;
+    }
+    whole
+}
+
+// A threshold's k and n.
+fn show_k_and_n(parts: Parts) -> bool {
+    let k = say_number(parts.k as u64);
+    say_number(parts.count as u64) & k
+}
+
+// The numbers of a record of a shape.
+fn show_parts(shape: Shape, bytes: &[u8]) -> bool {
+    let parts = records::parts_of(shape, bytes);
+    let children = parts.children;
+    match shape {
+        Shape::Nothing => true,
+        Shape::Number => say_number(parts.number as u64),
+        Shape::Lock => say_number(parts.number as u64),
+        Shape::OneChild => show_children(children, parts.count),
+        Shape::TwoChildren => show_children(children, parts.count),
+        Shape::ThreeChildren => show_children(children, parts.count),
+        Shape::Weighted => show_children(children, parts.count),
+        Shape::Threshold => show_k_and_n(parts) & show_children(children, parts.count),
+        Shape::Keys => show_k_and_n(parts) & show_keys(bytes, parts.count),
+    }
+}
+
+// The numbers of a record of a kind.
+fn show_payload(kind: u16, bytes: &[u8]) -> bool {
+    match records::shape_of(kind) {
+        KindShape::Known(shape) => show_parts(shape, bytes),
+        KindShape::Unknown => true,
+    }
+}
+
+// The line of a record: its number, its kind's name, its numbers.
+fn show_record(number: usize, bytes: &[u8]) -> bool {
+    let kind = records::kind_of(bytes);
+    let mut name = kind_name(kind);
+    let numbered = io::print_decimal(STDOUT_FILENO, number as u64);
+    let spaced = say(b" ");
+    let named = say_places(&mut name);
+    let paid = show_payload(kind, bytes);
+    say(b"\n") & numbered & spaced & named & paid
+}
+
+// A line for each record of a tree, in order.
+fn show_tree(tree: &[u8]) -> bool {
+    let mut whole = true;
+    let mut number = 0;
+    let mut at = 0;
+    while at < tree.len() {
+        let RecordLength::Whole(n) = records::length_at(tree, at) else {
+            return whole;
+        };
+        let shown = show_record(number, &tree[at..at + n]);
+        whole = whole & shown;
+        number += 1;
+        at += n;
+    }
+    whole
+}
+
+// Says so where not all of an answer was written.
+fn say_unless(whole: bool) {
+    if !whole {
+        os::fail(b"standard output");
+    }
+}
+
+// Shows a refusal: its number, and what it means.
+pub fn show_refusal(number: u32) {
+    let first = show_number(number);
+    say_unless(show_meaning(number) & first);
+}
+
+// Shows the answer to a policy that is compiled: what it gives, and its tree.
+pub fn show_compiled(cost: u64, nodes: u64, tree: &[u8]) {
+    let first = show_number(0);
+    let given = show_given(tree.len() as u64, cost, nodes);
+    say_unless(show_tree(tree) & first & given);
+}
+
+// Shows the answer to a tree that passes: its type, of which the packed number is given.
+pub fn show_checked(packed: u32) {
+    let first = show_number(0);
+    match Type::unpack(packed) {
+        Unpacked::Is(t) => say_unless(show_type(t) & first),
+        Unpacked::NotAType => say_unless(first),
+    }
+}
