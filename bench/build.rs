@@ -81,6 +81,8 @@ fn main() {
         &[
             module("pub", "types", &miniscript("types/mod.rs")),
             module("pub(crate)", "context", &miniscript("context.rs")),
+            module("pub", "decode", &miniscript("decode.rs")),
+            module("pub", "lex", &miniscript("lex.rs")),
             module("pub", "limits", &miniscript("limits.rs")),
         ]
         .concat(),
@@ -96,6 +98,7 @@ fn main() {
     );
 
     link("CLASPWILLOW_LIB", "port");
+    link("CLASPWILLOW_SCRIPTING", "scripting");
     link("CLASPWILLOW_PROBE", "probe");
     link("CLASPWILLOW_PROBE_THRESHOLDS", "probe_thresholds");
     println!("cargo:rerun-if-env-changed=MINISCRIPT_SRC");

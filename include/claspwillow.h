@@ -27,7 +27,8 @@ enum {
     CLASPWILLOW_OUTPUT_TOO_SMALL = 13,
     CLASPWILLOW_BAD_TREE = 14,
     CLASPWILLOW_ILL_TYPED = 15,
-    CLASPWILLOW_TREE_TOO_LARGE = 16
+    CLASPWILLOW_TREE_TOO_LARGE = 16,
+    CLASPWILLOW_NO_ENTRY = 17
 };
 
 /* The contexts. */
@@ -51,6 +52,18 @@ uint32_t claspwillow_check(uint32_t context, const uint8_t *tree, size_t tree_le
 
 /* The one length of `work`, in words, that claspwillow_check takes. */
 size_t claspwillow_check_work(void);
+
+/* Writes the script of a fragment tree to the front of `out`, and gives how many bytes it is in *bytes. Keys and hashes come from tables, entry i
+ * at i times its size: `keys` has entries of 33 bytes (context 0) or 32 (context 1), `key_hashes` the keys' HASH160 values of 20, `hashes32` of
+ * 32 (SHA256 and HASH256), `hashes20` of 20 (RIPEMD160 and HASH160). On a refusal *bytes is 0 and `out` is as it was.
+ * `work` is lent: claspwillow_script_work() words, of any content; they are all zero afterwards, whatever the call gives. */
+uint32_t claspwillow_script(uint32_t context, const uint8_t *tree, size_t tree_len, const uint8_t *keys, size_t keys_len,
+                            const uint8_t *key_hashes, size_t key_hashes_len, const uint8_t *hashes32, size_t hashes32_len,
+                            const uint8_t *hashes20, size_t hashes20_len, uint8_t *out, size_t out_len, uint64_t *work, size_t work_len,
+                            uint64_t *bytes);
+
+/* The one length of `work`, in words, that claspwillow_script takes. */
+size_t claspwillow_script_work(void);
 
 #ifdef __cplusplus
 }

@@ -10,6 +10,9 @@ use crate::random::Random;
 use crate::records::{to_hex, u16s, Writer};
 use crate::room::Counts;
 
+/// The list as it is stored.
+pub const STORED: &str = include_str!("../../crates/replay/data/compile.txt");
+
 type Case = (u32, Vec<u8>);
 type Test = fn(&Answer, &Counts) -> bool;
 

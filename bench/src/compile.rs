@@ -1,13 +1,11 @@
 //! `bench compile` and `bench replay`: policies through the Rust, or its stored answers, and through the port.
 
+use crate::answers::STORED;
 use crate::oracle;
 use crate::policies::{damaged, Maker};
 use crate::port;
 use crate::random::Random;
 use crate::records::{from_hex, to_hex};
-
-/// The stored answers of the Rust.
-const STORED: &str = include_str!("../../crates/replay/data/compile.txt");
 
 /// The words of work memory that docs/ENTRIES.md states.
 const WORK: usize = 612_360;

@@ -2,18 +2,22 @@
 //!
 //! The first part of this file is the crate that the Rust's own files are built in; `shims` stands for the files that are not there.
 
+// The Rust's files find the crate `bitcoin` here: what they ask of it stands at the root.
+extern crate self as bitcoin;
+
 mod shims;
 
-pub use shims::{bitcoin, keys, script_num_size, Error, MAX_RECURSION_DEPTH};
+pub use shims::bitcoin::hashes::hash256;
+pub use shims::bitcoin::*;
+pub use shims::{iter, keys, script_num_size, Error, MAX_RECURSION_DEPTH};
 pub use shims::keys::{AbsLockTime, ForEachKey, MiniscriptKey, RelLockTime, ToPublicKey};
 pub use shims::miniscript::Miniscript;
-pub use shims::terminal::Terminal;
 pub use shims::threshold::Threshold;
 pub use miniscript::context::SigType;
+pub use miniscript::decode::Terminal;
 
-pub mod hash256 {
-    #[derive(Clone, Copy, PartialEq, Eq, PartialOrd, Ord, Hash, Debug)]
-    pub struct Hash;
+pub mod primitives {
+    pub use crate::shims::threshold;
 }
 
 pub mod sync {
@@ -21,7 +25,6 @@ pub mod sync {
 }
 
 pub mod prelude {
-    pub use crate::bitcoin;
     pub use crate::sync;
     pub use std::collections::{BTreeMap, VecDeque};
 }
@@ -29,10 +32,6 @@ pub mod prelude {
 pub mod miniscript {
     pub use crate::Miniscript;
     pub use context::ScriptContext;
-
-    pub mod decode {
-        pub trait ParseableKey: crate::ToPublicKey {}
-    }
 
     include!(concat!(env!("OUT_DIR"), "/miniscript.rs"));
 }
@@ -49,17 +48,21 @@ mod answers;
 mod check;
 #[cfg(port)]
 mod compile;
+mod decode;
+mod encode;
 mod figures;
 mod oracle;
+mod outline;
 mod policies;
-#[cfg(any(port, all(probe, probe_thresholds)))]
+#[cfg(any(port, scripting, all(probe, probe_thresholds)))]
 mod port;
 mod random;
 mod records;
 mod room;
 #[cfg(all(probe, probe_thresholds))]
 mod rules;
-#[cfg(any(port, all(probe, probe_thresholds)))]
+#[cfg(scripting)]
+mod scripts;
 mod trees;
 
 use std::io::{self, BufWriter, Write};
@@ -75,9 +78,11 @@ const USAGE: &str = "usage:
   bench damage SEED COUNT MAXRECORDS   writes damaged copies of such lines
   bench answers                        writes the stored list, crates/replay/data/compile.txt, anew
   bench figures                        compares the Rust's costs with document 01's figures
+  bench decode SEED COUNT MAXRECORDS   writes small, stored and COUNT random trees as scripts and has the Rust's decoder read them back
   bench check SEED COUNT MAXRECORDS    runs COUNT random trees of each flavour and context through the Rust's type rules and the port
   bench compile SEED COUNT MAXRECORDS  runs COUNT random policies, some damaged, through the Rust and the port
   bench replay                         runs the stored list through the port
+  bench script SEED COUNT MAXRECORDS   runs COUNT random trees of each flavour and context, and tables, through the Rust's decoder and the port
   bench rules SEED COUNT               runs COUNT rules in each context and COUNT thresholds over random candidates through the Rust and the port
 ";
 
@@ -151,6 +156,17 @@ fn replay() -> Result<bool, String> {
     no_port()
 }
 
+#[cfg(scripting)]
+fn script(words: [&str; 3]) -> Result<bool, String> {
+    let (seed, count, records) = numbers(words, 4_096)?;
+    Ok(scripts::run(seed, count, records))
+}
+
+#[cfg(not(scripting))]
+fn script(_: [&str; 3]) -> Result<bool, String> {
+    Err("bench: built without crate scripting; CLASPWILLOW_SCRIPTING names its library when bench is built (docs/BENCH.md)\n".to_string())
+}
+
 #[cfg(all(probe, probe_thresholds))]
 fn rules(words: [&str; 2]) -> Result<bool, String> {
     let (seed, count) = (number(words[0])?, number(words[1])?);
@@ -181,8 +197,13 @@ fn run(words: &[&str]) -> Result<bool, String> {
         ["check", seed, count, records] => check([seed, count, records]),
         ["compile", seed, count, records] => compile([seed, count, records]),
         ["replay"] => replay(),
+        ["script", seed, count, records] => script([seed, count, records]),
         ["rules", seed, count] => rules([seed, count]),
         ["figures"] => Ok(figures::run()),
+        ["decode", seed, count, records] => {
+            let (seed, count, records) = numbers([seed, count, records], 4_096)?;
+            Ok(decode::run(seed, count, records))
+        }
         _ => Err(USAGE.to_string()),
     }
 }

@@ -142,8 +142,8 @@ pub fn while_answers<T>(run: impl FnOnce() -> T) -> T {
     result
 }
 
-/// Runs a copy of the compiler; a panic or a refusal of `room` comes back as its payload.
-fn guarded<T>(run: impl FnOnce() -> T) -> Result<T, Box<dyn Any + Send>> {
+/// Runs code of the Rust; a panic or a refusal of `room` comes back as its payload.
+pub fn guarded<T>(run: impl FnOnce() -> T) -> Result<T, Box<dyn Any + Send>> {
     while_answers(|| panic::catch_unwind(AssertUnwindSafe(run)))
 }
 

@@ -3,6 +3,9 @@
 #[cfg(port)]
 use std::slice;
 
+#[cfg(scripting)]
+use crate::outline::Tables;
+
 #[cfg(port)]
 extern "C" {
     fn claspwillow_check(context: u32, tree: *const u8, tree_len: usize, work: *mut u64, work_len: usize, ty: *mut u32) -> u32;
@@ -20,6 +23,29 @@ extern "C" {
         nodes: *mut u64,
     ) -> u32;
     fn claspwillow_compile_work() -> usize;
+}
+
+#[cfg(scripting)]
+extern "C" {
+    fn claspwillow_script(
+        context: u32,
+        tree: *const u8,
+        tree_len: usize,
+        keys: *const u8,
+        keys_len: usize,
+        key_hashes: *const u8,
+        key_hashes_len: usize,
+        hashes32: *const u8,
+        hashes32_len: usize,
+        hashes20: *const u8,
+        hashes20_len: usize,
+        out: *mut u8,
+        out_len: usize,
+        work: *mut u64,
+        work_len: usize,
+        bytes: *mut u64,
+    ) -> u32;
+    fn claspwillow_script_work() -> usize;
 }
 
 #[cfg(all(probe, probe_thresholds))]
@@ -66,6 +92,40 @@ pub fn compile(context: u32, policy: &[u8], out: &mut [u8], work: &mut [u64], re
             bytes,
             cost,
             nodes,
+        )
+    }
+}
+
+/// The words of work memory that script asks for.
+#[cfg(scripting)]
+pub fn script_work() -> usize {
+    // SAFETY: the function takes nothing.
+    unsafe { claspwillow_script_work() }
+}
+
+/// The number, and the count of bytes as the call left it.
+#[cfg(scripting)]
+pub fn script(context: u32, tree: &[u8], tables: &Tables, out: &mut [u8], work: &mut [u64], bytes: &mut u64) -> u32 {
+    let [keys, key_hashes, hashes32, hashes20] = tables;
+    // SAFETY: each slice is passed as its own pointer and length, and the result as a pointer to one word.
+    unsafe {
+        claspwillow_script(
+            context,
+            tree.as_ptr(),
+            tree.len(),
+            keys.as_ptr(),
+            keys.len(),
+            key_hashes.as_ptr(),
+            key_hashes.len(),
+            hashes32.as_ptr(),
+            hashes32.len(),
+            hashes20.as_ptr(),
+            hashes20.len(),
+            out.as_mut_ptr(),
+            out.len(),
+            work.as_mut_ptr(),
+            work.len(),
+            bytes,
         )
     }
 }

@@ -4,6 +4,7 @@ use crate::keys::Key;
 use crate::miniscript::context::{Segwitv0, Tap};
 use crate::miniscript::types::{Base, Dissat, ExtData, Input, Type};
 use crate::miniscript::ScriptContext;
+use crate::policies::LOCKS;
 use crate::random::Random;
 use crate::records::{u16_at, u16s, u32_at, Writer, LOCK_MAX, THRESH_MAX, TREE_RECORDS};
 use crate::sync::Arc;
@@ -21,8 +22,8 @@ pub const CHECK_WORK: usize = 4_096;
 /// The number that the check gives, and the root's packed type (0 on a refusal).
 pub fn check(context: u32, tree: &[u8], work: usize) -> (u32, u32) {
     let typed = match (context, work) {
-        (0 | 1, CHECK_WORK) if context == 0 => read_tree::<Segwitv0>(tree),
-        (0 | 1, CHECK_WORK) => read_tree::<Tap>(tree),
+        (0, CHECK_WORK) => read_tree::<Segwitv0>(tree).map(|root| root.ty),
+        (1, CHECK_WORK) => read_tree::<Tap>(tree).map(|root| root.ty),
         (0 | 1, _) => Err(BAD_WORK),
         _ => Err(BAD_CONTEXT),
     };
@@ -57,10 +58,10 @@ pub fn packed(ty: &Type) -> u32 {
     (number * 2 + u32::from(ty.mall.safe)) * 2 + u32::from(ty.mall.non_malleable)
 }
 
-type Child<Ctx> = Arc<Miniscript<Key, Ctx>>;
+pub type Child<Ctx> = Arc<Miniscript<Key, Ctx>>;
 
-/// The type of the tree that the bytes write: per record 16, 14, 15, then unused records.
-fn read_tree<Ctx: ScriptContext>(bytes: &[u8]) -> Result<Type, u32> {
+/// The tree that the bytes write, with its type and figures: per record 16, 14, 15, then unused records.
+pub fn read_tree<Ctx: ScriptContext>(bytes: &[u8]) -> Result<Child<Ctx>, u32> {
     let mut slots: Vec<Option<Child<Ctx>>> = Vec::new();
     let mut at = 0;
     while at < bytes.len() {
@@ -73,14 +74,19 @@ fn read_tree<Ctx: ScriptContext>(bytes: &[u8]) -> Result<Type, u32> {
         }
         let length = u16_at(rest, 0);
         let node = read_node::<Ctx>(u16_at(rest, 2), &rest[4..length], &mut slots)?;
-        let ty = typed(&node)?;
-        slots.push(Some(Arc::new(Miniscript::from_components_unchecked(node, ty, ExtData::TRUE))));
+        slots.push(Some(made(node)?));
         at += length;
     }
     match slots.pop() {
-        Some(Some(root)) if slots.iter().all(Option::is_none) => Ok(root.ty),
+        Some(Some(root)) if slots.iter().all(Option::is_none) => Ok(root),
         _ => Err(BAD_TREE),
     }
+}
+
+/// A fragment with its type and figures.
+fn made<Ctx: ScriptContext>(node: Terminal<Key, Ctx>) -> Result<Child<Ctx>, u32> {
+    let (ty, ext) = (typed(&node)?, ExtData::type_check(&node));
+    Ok(Arc::new(Miniscript::from_components_unchecked(node, ty, ext)))
 }
 
 /// The Rust's type of a fragment, in the one context that Multi and MultiA have.
@@ -127,24 +133,7 @@ fn read_node<Ctx: ScriptContext>(kind: usize, payload: &[u8], slots: &mut [Optio
         42..=55 => {
             let n = arity(kind as u16);
             form(payload.len() == 2 * n)?;
-            let mut list = children(0, n)?.into_iter();
-            let mut next = || list.next().ok_or(BAD_TREE);
-            match kind {
-                42 => Terminal::Alt(next()?),
-                43 => Terminal::Swap(next()?),
-                44 => Terminal::Check(next()?),
-                45 => Terminal::DupIf(next()?),
-                46 => Terminal::Verify(next()?),
-                47 => Terminal::NonZero(next()?),
-                48 => Terminal::ZeroNotEqual(next()?),
-                49 => Terminal::AndB(next()?, next()?),
-                50 => Terminal::AndV(next()?, next()?),
-                51 => Terminal::OrB(next()?, next()?),
-                52 => Terminal::OrD(next()?, next()?),
-                53 => Terminal::OrC(next()?, next()?),
-                54 => Terminal::OrI(next()?, next()?),
-                _ => Terminal::AndOr(next()?, next()?, next()?),
-            }
+            over(kind, children(0, n)?).ok_or(BAD_TREE)?
         }
         56..=58 => {
             form(payload.len() >= 4)?;
@@ -161,6 +150,28 @@ fn read_node<Ctx: ScriptContext>(kind: usize, payload: &[u8], slots: &mut [Optio
         _ => return Err(BAD_TREE),
     };
     Ok(node)
+}
+
+/// A wrapper, a pair or a triple over its children.
+fn over<Ctx: ScriptContext>(kind: usize, children: Vec<Child<Ctx>>) -> Option<Terminal<Key, Ctx>> {
+    let mut list = children.into_iter();
+    let mut next = || list.next();
+    Some(match kind {
+        42 => Terminal::Alt(next()?),
+        43 => Terminal::Swap(next()?),
+        44 => Terminal::Check(next()?),
+        45 => Terminal::DupIf(next()?),
+        46 => Terminal::Verify(next()?),
+        47 => Terminal::NonZero(next()?),
+        48 => Terminal::ZeroNotEqual(next()?),
+        49 => Terminal::AndB(next()?, next()?),
+        50 => Terminal::AndV(next()?, next()?),
+        51 => Terminal::OrB(next()?, next()?),
+        52 => Terminal::OrD(next()?, next()?),
+        53 => Terminal::OrC(next()?, next()?),
+        54 => Terminal::OrI(next()?, next()?),
+        _ => Terminal::AndOr(next()?, next()?, next()?),
+    })
 }
 
 /// The children of a wrapper, a pair or a triple.
@@ -350,7 +361,121 @@ fn long(records: usize) -> Vec<u8> {
     out.bytes
 }
 
+/// The keys and hashes of a well-formed tree: where each stands in the bytes, and in which of the tables of docs/ENTRIES.md its entry does.
+fn entries(bytes: &[u8]) -> Vec<(usize, usize)> {
+    let mut list = Vec::new();
+    for (at, kind) in places(bytes) {
+        match kind {
+            34 => list.push((at + 4, 0)),
+            35 => list.push((at + 4, 1)),
+            38 | 39 => list.push((at + 4, 2)),
+            40 | 41 => list.push((at + 4, 3)),
+            57 | 58 => list.extend((at + 8..at + u16_at(bytes, at)).step_by(4).map(|place| (place, 0))),
+            _ => {}
+        }
+    }
+    list
+}
+
+/// The keys and hashes of a well-formed tree: the table, and the number in it.
+#[cfg(scripting)]
+pub fn numbers(bytes: &[u8]) -> Vec<(usize, u32)> {
+    entries(bytes).into_iter().map(|(place, table)| (table, u32_at(bytes, place))).collect()
+}
+
+/// Numbers whose entry, of 32, 20 or 33 bytes, begins or ends about 2^32 bytes into its table, and the last.
+const FAR: [u32; 6] = [(1 << 27) - 1, 1 << 27, 214_748_364, 130_150_524, u32::MAX - 1, u32::MAX];
+
+/// A copy of a well-formed tree in which keys and hashes have numbers below `bound`, but for one number in `large`, which is any.
+pub fn renumbered(random: &mut Random, bytes: &[u8], bound: usize, large: usize) -> Vec<u8> {
+    let mut out = bytes.to_vec();
+    for (place, _) in entries(bytes) {
+        let any = if random.once_in(2) { random.next() as u32 } else { *random.pick(&FAR) };
+        let number = if random.once_in(large) { any } else { random.below(bound) as u32 };
+        out[place..place + 4].copy_from_slice(&number.to_le_bytes());
+    }
+    out
+}
+
+/// Leaves of every kind that a context has, with few numbers; and locks and multisignatures with every size of a number.
+fn leaves<Ctx: ScriptContext>() -> [Vec<Child<Ctx>>; 2] {
+    let multi = |k: usize, n: usize| {
+        let keys: Vec<Key> = (0..n as u32).map(Key).collect();
+        let nodes = [Threshold::new(k, keys.clone()).map(Terminal::Multi), Threshold::new(k, keys).map(Terminal::MultiA)];
+        nodes.into_iter().flatten().collect::<Vec<_>>()
+    };
+    let locks = |n: u32| vec![Terminal::After(AbsLockTime(n)), Terminal::Older(RelLockTime(n))];
+    let few = [
+        vec![Terminal::False, Terminal::True, Terminal::PkK(Key(0)), Terminal::PkH(Key(1))],
+        vec![Terminal::Sha256(0), Terminal::Hash256(1), Terminal::Ripemd160(0), Terminal::Hash160(1)],
+        [locks(16), locks(17), multi(1, 1), multi(2, 3)].concat(),
+    ];
+    let many = [LOCKS.map(locks).concat(), (1..=THRESH_MAX).flat_map(|n| (1..=n).flat_map(move |k| multi(k, n))).collect()];
+    let typed = |nodes: Vec<Terminal<Key, Ctx>>| nodes.into_iter().filter_map(|node| made(node).ok()).collect();
+    [typed(few.concat()), typed(many.concat())]
+}
+
+/// All ways to take `n` trees with `records` records together.
+fn choices<Ctx: ScriptContext>(by_size: &[Vec<Child<Ctx>>], records: usize, n: usize) -> Vec<Vec<Child<Ctx>>> {
+    if n == 0 {
+        return if records == 0 { vec![vec![]] } else { vec![] };
+    }
+    let mut all = Vec::new();
+    for size in 1..=records.min(by_size.len() - 1) {
+        for rest in choices(by_size, records - size, n - 1) {
+            all.extend(by_size[size].iter().map(|tree| [std::slice::from_ref(tree), &rest].concat()));
+        }
+    }
+    all
+}
+
+/// Every well-typed tree of up to so many records over few leaves, the smaller ones first, and leaves with more numbers.
+pub fn small<Ctx: ScriptContext>(records: usize) -> Vec<Child<Ctx>> {
+    let [few, many] = leaves();
+    let mut by_size = vec![vec![], few];
+    for size in 2..=records {
+        let mut next = Vec::new();
+        for n in 1..size.min(4) {
+            for children in choices(&by_size, size - 1, n) {
+                let kinds = (42..=55).filter(|&kind| arity(kind as u16) == n).filter_map(|kind| over(kind, children.clone()));
+                let thresholds = (1..=n).filter_map(|k| Threshold::new(k, children.clone()).ok().map(Terminal::Thresh));
+                next.extend(kinds.chain(thresholds).filter_map(|node| made(node).ok()));
+            }
+        }
+        by_size.push(next);
+    }
+    many.into_iter().chain(by_size.into_iter().flatten()).collect()
+}
+
+/// A random well-typed tree of at most so many records, most often a large one: fragments are put over others, of which the newest are met most.
+pub fn grown<Ctx: ScriptContext>(random: &mut Random, records: usize) -> Child<Ctx> {
+    let [few, many] = leaves();
+    let picked: Vec<Child<Ctx>> = (0..2).map(|_| random.pick(&many).clone()).collect();
+    let mut pool: Vec<(usize, Child<Ctx>)> = few.into_iter().chain(picked).map(|leaf| (1, leaf)).collect();
+    // Keys are checked, and what can be is verified, so that there is something of every base.
+    for wrap in [Terminal::Check, Terminal::Verify] {
+        let more: Vec<_> = pool.iter().filter_map(|(size, tree)| Some((size + 1, made(wrap(Arc::clone(tree))).ok()?))).collect();
+        pool.extend(more.into_iter().filter(|(size, _)| *size <= records));
+    }
+    for _ in 0..random.between(20, 1_200) {
+        let kind = if random.once_in(3) { random.between(42, 48) } else { random.between(49, 56) };
+        let n = if kind == 56 { random.between(1, 5) } else { arity(kind as u16) };
+        let newest = if random.once_in(3) { pool.len() } else { 12 };
+        let taken: Vec<_> = (0..n).map(|_| random.pick(&pool[pool.len() - newest..]).clone()).collect();
+        let size = 1 + taken.iter().map(|(size, _)| size).sum::<usize>();
+        let children: Vec<_> = taken.into_iter().map(|(_, tree)| tree).collect();
+        let node = if kind == 56 { Threshold::new(random.between(1, n), children).ok().map(Terminal::Thresh) } else { over(kind, children) };
+        if let (true, Some(Ok(tree))) = (size <= records, node.map(made)) {
+            pool.push((size, tree));
+        }
+    }
+    let largest = pool.iter().max_by_key(|(size, _)| *size);
+    let (_, tree) = if random.once_in(4) { pool.last() } else { largest }.expect("the pool has leaves");
+    Arc::clone(tree)
+}
+
 /// What a random tree is meant to be.
+#[cfg(any(port, scripting))]
 pub const FLAVOURS: [&str; 3] = ["well-typed", "ill-typed", "damaged"];
 
 /// The bytes of a random tree of one flavour.

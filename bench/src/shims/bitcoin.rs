@@ -1,19 +1,75 @@
-//! The names that context.rs takes from the crate `bitcoin`: key and hash types that nothing here makes a value of, and the block's weight.
+//! The names that the Rust's files take from the crate `bitcoin`: keys and hashes by their bytes, scripts, and the block's weight. Nothing here
+//! asks whether a key is a point of the curve.
 
-use crate::{hash256, MiniscriptKey, ToPublicKey};
+use crate::{MiniscriptKey, ToPublicKey};
+
+pub use super::script::Opcode;
+
+pub mod blockdata {
+    pub use super::super::script;
+    pub use super::super::script::opcodes;
+}
+
+pub mod script {
+    pub use super::super::script::{Error, PushBytesBuf};
+}
+
+pub mod hex {
+    /// Bytes in hexadecimal.
+    pub trait DisplayHex {
+        fn as_hex(&self) -> String;
+    }
+
+    impl DisplayHex for [u8] {
+        fn as_hex(&self) -> String {
+            crate::records::to_hex(self)
+        }
+    }
+}
+
+macro_rules! bytes {
+    ($name:ident, $length:literal) => {
+        #[derive(Clone, Copy, PartialEq, Eq, PartialOrd, Ord, Hash, Debug)]
+        pub struct $name(pub [u8; $length]);
+
+        impl std::fmt::Display for $name {
+            fn fmt(&self, f: &mut std::fmt::Formatter) -> std::fmt::Result {
+                write!(f, "{}", crate::records::to_hex(&self.0))
+            }
+        }
+    };
+}
+
+macro_rules! hash {
+    ($length:literal) => {
+        bytes!(Hash, $length);
+
+        impl crate::hashes::Hash<$length> for Hash {
+            fn from_byte_array(bytes: [u8; $length]) -> Self {
+                Hash(bytes)
+            }
+        }
+    };
+}
 
 pub mod hashes {
+    /// A hash made of its bytes.
+    pub trait Hash<const N: usize> {
+        fn from_byte_array(bytes: [u8; N]) -> Self;
+    }
+
     pub mod sha256 {
-        #[derive(Clone, Copy, PartialEq, Eq, PartialOrd, Ord, Hash, Debug)]
-        pub struct Hash;
+        hash!(32);
     }
     pub mod ripemd160 {
-        #[derive(Clone, Copy, PartialEq, Eq, PartialOrd, Ord, Hash, Debug)]
-        pub struct Hash;
+        hash!(20);
     }
     pub mod hash160 {
-        #[derive(Clone, Copy, PartialEq, Eq, PartialOrd, Ord, Hash, Debug)]
-        pub struct Hash;
+        hash!(20);
+    }
+    /// The Rust's own hash256.
+    pub mod hash256 {
+        hash!(32);
     }
 }
 
@@ -28,46 +84,48 @@ impl Weight {
     }
 }
 
-macro_rules! unused_key {
-    ($name:ident) => {
-        #[derive(Clone, Copy, PartialEq, Eq, PartialOrd, Ord, Hash, Debug)]
-        pub struct $name;
+macro_rules! key {
+    ($name:ident, $length:literal) => {
+        bytes!($name, $length);
 
-        impl crate::MiniscriptKey for $name {
-            type Sha256 = crate::bitcoin::hashes::sha256::Hash;
-            type Hash256 = crate::hash256::Hash;
-            type Ripemd160 = crate::bitcoin::hashes::ripemd160::Hash;
-            type Hash160 = crate::bitcoin::hashes::hash160::Hash;
+        impl $name {
+            pub fn from_slice(bytes: &[u8]) -> Result<Self, crate::key::FromSliceError> {
+                bytes.try_into().map($name).map_err(|_| crate::key::FromSliceError)
+            }
         }
 
-        impl std::fmt::Display for $name {
-            fn fmt(&self, _: &mut std::fmt::Formatter) -> std::fmt::Result {
-                Ok(())
-            }
+        impl crate::MiniscriptKey for $name {
+            type Sha256 = crate::hashes::sha256::Hash;
+            type Hash256 = crate::hash256::Hash;
+            type Ripemd160 = crate::hashes::ripemd160::Hash;
+            type Hash160 = crate::hashes::hash160::Hash;
         }
 
         impl crate::ToPublicKey for $name {}
-        impl crate::miniscript::decode::ParseableKey for $name {}
     };
 }
 
-unused_key!(PublicKey);
+key!(PublicKey, 33);
+
+pub mod key {
+    /// A key that has another length.
+    #[derive(Clone, Copy, PartialEq, Eq, Debug)]
+    pub struct FromSliceError;
+
+    impl std::fmt::Display for FromSliceError {
+        fn fmt(&self, f: &mut std::fmt::Formatter) -> std::fmt::Result {
+            write!(f, "{self:?}")
+        }
+    }
+
+    impl std::error::Error for FromSliceError {}
+}
 
 pub mod secp256k1 {
-    unused_key!(XOnlyPublicKey);
-}
+    pub use super::key::FromSliceError as Error;
 
-macro_rules! shown_as_nothing {
-    ($($name:ty),*) => {
-        $(impl std::fmt::Display for $name {
-            fn fmt(&self, _: &mut std::fmt::Formatter) -> std::fmt::Result {
-                Ok(())
-            }
-        })*
-    };
+    key!(XOnlyPublicKey, 32);
 }
-
-shown_as_nothing!(hashes::sha256::Hash, hashes::ripemd160::Hash, hashes::hash160::Hash, hash256::Hash);
 
 /// The key that context.rs names for a context is one of the two above.
 const _: () = {

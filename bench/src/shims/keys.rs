@@ -22,7 +22,7 @@ pub trait MiniscriptKey: Clone + Eq + Ord + fmt::Debug + fmt::Display + hash::Ha
     type Hash160: Clone + Eq + Ord + fmt::Debug + fmt::Display + hash::Hash;
 }
 
-/// A key that a context could parse; nothing here parses one.
+/// A key that a context could parse.
 pub trait ToPublicKey: MiniscriptKey {}
 
 /// Visits every key.
@@ -49,11 +49,27 @@ impl MiniscriptKey for Key {
     type Hash160 = u32;
 }
 
+/// A number that is no lock: 0, or one above 2,147,483,647.
+#[derive(Clone, Copy, PartialEq, Eq, Debug)]
+pub struct LockError(pub u32);
+
+fn lock(number: u32) -> Result<u32, LockError> {
+    if (1..=0x7fff_ffff).contains(&number) {
+        Ok(number)
+    } else {
+        Err(LockError(number))
+    }
+}
+
 /// A lock by height or time.
 #[derive(Clone, Copy, PartialEq, Eq, PartialOrd, Ord, Hash, Debug)]
 pub struct AbsLockTime(pub u32);
 
 impl AbsLockTime {
+    pub fn from_consensus(number: u32) -> Result<Self, LockError> {
+        lock(number).map(AbsLockTime)
+    }
+
     pub fn to_consensus_u32(self) -> u32 {
         self.0
     }
@@ -72,6 +88,10 @@ impl AbsLockTime {
 pub struct RelLockTime(pub u32);
 
 impl RelLockTime {
+    pub fn from_consensus(number: u32) -> Result<Self, LockError> {
+        lock(number).map(RelLockTime)
+    }
+
     pub fn to_consensus_u32(self) -> u32 {
         self.0
     }

@@ -3,12 +3,13 @@
 use std::fmt;
 use std::marker::PhantomData;
 
+use crate::hashes::hash160;
 use crate::miniscript::limits::{MAX_PUBKEYS_IN_CHECKSIGADD, MAX_PUBKEYS_PER_MULTISIG};
 use crate::miniscript::types::{ExtData, Type};
 use crate::miniscript::ScriptContext;
 use crate::{AbsLockTime, Error, ForEachKey, MiniscriptKey, RelLockTime, Terminal, Threshold, MAX_RECURSION_DEPTH};
 
-/// A fragment tree; children are shared.
+/// A fragment tree.
 #[derive(Clone)]
 pub struct Miniscript<Pk: MiniscriptKey, Ctx: ScriptContext> {
     pub node: Terminal<Pk, Ctx>,
@@ -33,6 +34,10 @@ impl<Pk: MiniscriptKey, Ctx: ScriptContext> Miniscript<Pk, Ctx> {
     pub fn pk_h(pk: Pk) -> Self {
         let ext = ExtData::pk_h::<_, Ctx>(Some(&pk));
         Self::with(Terminal::PkH(pk), Type::pk_h(), ext)
+    }
+
+    pub fn expr_raw_pkh(hash: hash160::Hash) -> Self {
+        Self::with(Terminal::RawPkH(hash), Type::pk_h(), ExtData::pk_h::<Pk, Ctx>(None))
     }
 
     pub fn after(time: AbsLockTime) -> Self {
@@ -71,7 +76,8 @@ impl<Pk: MiniscriptKey, Ctx: ScriptContext> Miniscript<Pk, Ctx> {
 
     /// The fragment over children that have their types: typed, not too tall, globally valid, or refused in this order.
     pub fn from_ast(t: Terminal<Pk, Ctx>) -> Result<Self, Error> {
-        let res = Self::with(t.clone(), Type::type_check(&t)?, ExtData::type_check(&t));
+        let (ty, ext) = (Type::type_check(&t)?, ExtData::type_check(&t));
+        let res = Self::with(t, ty, ext);
         if res.ext.tree_height as u32 > MAX_RECURSION_DEPTH {
             return Err(Error::MaxRecursiveDepthExceeded);
         }
@@ -100,6 +106,13 @@ impl<Pk: MiniscriptKey, Ctx: ScriptContext> Miniscript<Pk, Ctx> {
 impl<Pk: MiniscriptKey, Ctx: ScriptContext> fmt::Debug for Miniscript<Pk, Ctx> {
     fn fmt(&self, f: &mut fmt::Formatter) -> fmt::Result {
         write!(f, "{:?}", self.ty)
+    }
+}
+
+/// An ill-typed fragment is written out in the Rust's error; here it shows as nothing, so that the Rust does not spend time on text.
+impl<Pk: MiniscriptKey, Ctx: ScriptContext> fmt::Display for Terminal<Pk, Ctx> {
+    fn fmt(&self, _: &mut fmt::Formatter) -> fmt::Result {
+        Ok(())
     }
 }
 

@@ -4,13 +4,14 @@
 
 pub mod bitcoin;
 pub mod concrete;
+pub mod iter;
 pub mod keys;
 pub mod miniscript;
-pub mod terminal;
+pub mod script;
 pub mod threshold;
 
 use crate::miniscript::context::ScriptContextError;
-use crate::miniscript::types;
+use crate::miniscript::{decode, lex, types};
 
 /// The errors of the crate that the files built here can give.
 #[derive(Debug)]
@@ -22,6 +23,14 @@ pub enum Error {
     MaxRecursiveDepthExceeded,
     TypeCheck(types::ErrorKind),
     ContextError(ScriptContextError),
+    Script(lex::Error),
+    Unexpected(String),
+    UnexpectedStart,
+    Trailing(String),
+    PubKeyCtxError(decode::KeyError, &'static str),
+    AbsoluteLockTime(keys::LockError),
+    RelativeLockTime(keys::LockError),
+    Threshold(()),
 }
 
 impl From<types::Error> for Error {
@@ -33,6 +42,12 @@ impl From<types::Error> for Error {
 impl From<ScriptContextError> for Error {
     fn from(e: ScriptContextError) -> Error {
         Error::ContextError(e)
+    }
+}
+
+impl From<lex::Error> for Error {
+    fn from(e: lex::Error) -> Error {
+        Error::Script(e)
     }
 }
 

@@ -1,5 +1,14 @@
 //! A threshold: k of a list, with a greatest length MAX (0: none).
 
+/// Whether 1 ≤ k ≤ n and n is at most MAX.
+pub fn validate_k_n<const MAX: usize>(k: usize, n: usize) -> Result<(), ()> {
+    if k == 0 || k > n || (MAX > 0 && n > MAX) {
+        Err(())
+    } else {
+        Ok(())
+    }
+}
+
 /// k of `data`.
 #[derive(Clone, PartialEq, Eq, PartialOrd, Ord, Hash, Debug)]
 pub struct Threshold<T, const MAX: usize> {
@@ -10,11 +19,8 @@ pub struct Threshold<T, const MAX: usize> {
 impl<T, const MAX: usize> Threshold<T, MAX> {
     /// The threshold, if 1 ≤ k ≤ n and n is at most MAX.
     pub fn new(k: usize, data: Vec<T>) -> Result<Self, ()> {
-        if k == 0 || k > data.len() || (MAX > 0 && data.len() > MAX) {
-            Err(())
-        } else {
-            Ok(Threshold { k, data })
-        }
+        validate_k_n::<MAX>(k, data.len())?;
+        Ok(Threshold { k, data })
     }
 
     pub fn k(&self) -> usize {

@@ -10,10 +10,22 @@ pub const INPUT_WORD: usize = 3;
 
 pub const OUTPUT_WORD: usize = 4;
 
-// What the program is asked to do: to compile or to check in a context, or nothing, and the reason has been said.
+// The places of the tables of a script among the words, and of its OUTPUT.
+pub const KEYS_WORD: usize = 4;
+
+pub const KEY_HASHES_WORD: usize = 5;
+
+pub const HASHES32_WORD: usize = 6;
+
+pub const HASHES20_WORD: usize = 7;
+
+pub const SCRIPT_WORD: usize = 8;
+
+// What the program is asked to do: to compile, to check or to write a script in a context, or nothing, and the reason has been said.
 pub enum Asked {
     Compile(u32),
     Check(u32),
+    Script(u32),
     Nothing,
 }
 
@@ -21,6 +33,7 @@ pub enum Asked {
 enum Command {
     Compile,
     Check,
+    Script,
     Unknown,
 }
 
@@ -35,7 +48,15 @@ fn usage(wrong: &[u8]) {
     io::write_all(STDERR_FILENO, b"       console check CONTEXT TREE\n");
     io::write_all(
         STDERR_FILENO,
+        b"       console script CONTEXT TREE KEYS KEYHASHES HASHES32 HASHES20 [OUTPUT]\n",
+    );
+    io::write_all(
+        STDERR_FILENO,
         b"CONTEXT is 0 for SegWit v0, 1 for Tapscript. POLICY and TREE are files of records, - for standard input. OUTPUT is a new file.\n",
+    );
+    io::write_all(
+        STDERR_FILENO,
+        b"KEYS, KEYHASHES, HASHES32 and HASHES20 are files of keys and hashes, one after another.\n",
     );
 }
 
@@ -46,6 +67,9 @@ fn command_of(word: &[u8]) -> Command {
     if check::same(word, b"check") {
         return Command::Check;
     }
+    if check::same(word, b"script") {
+        return Command::Script;
+    }
     Command::Unknown
 }
 
@@ -55,10 +79,10 @@ fn command_given() -> Command {
     command_of(&word[..n])
 }
 
-// Whether there are at most so many words, and those that every command takes; says so where not.
-fn words_suit(most: usize) -> bool {
+// Whether there are at most so many words, and the last that the command needs; says so where not.
+fn words_suit(last: usize, most: usize) -> bool {
     let words = os::arg_count();
-    if words <= INPUT_WORD {
+    if words <= last {
         usage(b"too few words");
         return false;
     }
@@ -75,9 +99,9 @@ fn context_word() -> Number32 {
     numerals::decimal(&word[..n])
 }
 
-// The CONTEXT of a command that takes at most so many words.
-fn context_given(most: usize) -> Number32 {
-    if words_suit(most) {
+// The CONTEXT of a command that needs the words up to this one and takes at most so many.
+fn context_given(last: usize, most: usize) -> Number32 {
+    if words_suit(last, most) {
         let context = context_word();
         if let Number32::Missing = context {
             usage(b"CONTEXT is not a decimal number up to 4294967295");
@@ -90,12 +114,16 @@ fn context_given(most: usize) -> Number32 {
 // What the words ask.
 pub fn what_is_asked() -> Asked {
     match command_given() {
-        Command::Compile => match context_given(5) {
+        Command::Compile => match context_given(INPUT_WORD, 5) {
             Number32::Is(context) => Asked::Compile(context),
             Number32::Missing => Asked::Nothing,
         },
-        Command::Check => match context_given(4) {
+        Command::Check => match context_given(INPUT_WORD, 4) {
             Number32::Is(context) => Asked::Check(context),
+            Number32::Missing => Asked::Nothing,
+        },
+        Command::Script => match context_given(HASHES20_WORD, 9) {
+            Number32::Is(context) => Asked::Script(context),
             Number32::Missing => Asked::Nothing,
         },
         Command::Unknown => {

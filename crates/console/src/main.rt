@@ -2,9 +2,13 @@
 //
 //     console compile CONTEXT POLICY [OUTPUT]    compiles a policy, shows the answer, writes the tree's records to the new file OUTPUT
 //     console check CONTEXT TREE                 checks a fragment tree and shows its type
+//     console script CONTEXT TREE KEYS KEYHASHES HASHES32 HASHES20 [OUTPUT]
+//                                                shows the script of a fragment tree, writes its bytes to the new file OUTPUT
 //
 // A caller looks at the first word of standard output, which is document 01's number; there is none where something else went wrong, and then
 // standard error says what.
+mod script_command;
+
 ghost use Prim.Native.Nat.{_≤_};
 ghost use lib.ListN.{length};
 ghost use Rattle.files.specs.Rooms.{Held};
@@ -94,6 +98,7 @@ fn main() {
     match command_line::what_is_asked() {
         Asked::Compile(context) => compile(context),
         Asked::Check(context) => check_tree(context),
+        Asked::Script(context) => script_command::write_script(context),
         Asked::Nothing => {}
     }
 }

@@ -1,4 +1,5 @@
--- The names of fragments and of answers, under their numbers: document 01, "Records" and "Numbers the console shows". Assumes nothing.
+-- The names of fragments and of answers, under their numbers: document 01, "Records" and "Numbers the console shows"; 17 is from
+-- document 02, R-1. Assumes nothing.
 use mathlib.Core.Bool.{cond}
 use mathlib.Core.List.{List, [], _∷_}
 use Prim.Native.Nat.{ℕ}
@@ -61,6 +62,7 @@ answers =
     ∷ 14 named "BadTree"
     ∷ 15 named "IllTyped"
     ∷ 16 named "TreeTooLarge"
+    ∷ 17 named "NoEntry"
     ∷ []
 
 -- the name of a number, none where the table has no such number

@@ -70,6 +70,7 @@ pub fn answer_name(number: u32) -> [u8; 15]
         14 => *b"BadTree        ",
         15 => *b"IllTyped       ",
         16 => *b"TreeTooLarge   ",
+        17 => *b"NoEntry        ",
         _ => *b"               ",
     }
 }

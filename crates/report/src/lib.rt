@@ -1,4 +1,4 @@
-// The answers of compile and of the tree check as lines of standard output. What is not public answers whether all of its text was written; where
+// The answers of compile, of the tree check and of the script as lines of standard output. What is not public answers whether all of its text was written; where
 // not, the public functions say so on standard error.
 //
 // Every function is safe and ends. No contract can say what is written to a descriptor.
@@ -71,6 +71,7 @@ fn show_meaning(number: u32) -> bool {
             b"the tree breaks a type rule, or has Multi in context 1 or MultiA in context 0\n",
         ),
         16 => say(b"the tree has more than 4096 records\n"),
+        17 => say(b"a number of the tree has no whole entry in its table\n"),
         _ => true,
     }
 }
@@ -182,6 +183,30 @@ fn show_tree(tree: &[u8]) -> bool {
     whole
 }
 
+// Writes a byte in two hexadecimal digits.
+fn say_byte(b: u8) -> bool {
+    io::print_hex(STDOUT_FILENO, b as u64, 2)
+}
+
+// Writes bytes in hexadecimal.
+fn say_hex(bytes: &[u8]) -> bool {
+    let mut whole = true;
+    let mut i = 0;
+    while i < bytes.len() {
+        let said = say_byte(bytes[i]);
+        whole = whole & said;
+        i += 1;
+    }
+    whole
+}
+
+// The line of a script's bytes.
+fn show_bytes(script: &[u8]) -> bool {
+    let worded = say(b"script ");
+    let digits = say_hex(script);
+    say(b"\n") & worded & digits
+}
+
 // Says so where not all of an answer was written.
 fn say_unless(whole: bool) {
     if !whole {
@@ -209,4 +234,11 @@ pub fn show_checked(packed: u32) {
         Unpacked::Is(t) => say_unless(show_type(t) & first),
         Unpacked::NotAType => say_unless(first),
     }
+}
+
+// Shows the answer to a tree whose script is written: how many bytes it has, and the bytes.
+pub fn show_script(script: &[u8]) {
+    let first = show_number(0);
+    let counted = say_line(b"bytes", script.len() as u64);
+    say_unless(show_bytes(script) & first & counted);
 }

@@ -75,9 +75,14 @@ unfolding nameIn
 returns-17 c = rw (c .before .before .match .keys17)
 
 returns-18 : tie.Need-returns-18
-returns-18 c =
+unfolding nameIn
+returns-18 c = rw (c .before .before .match .keys18)
+
+returns-19 : tie.Need-returns-19
+returns-19 c =
     let rest = c .before .before .match .rest in
     ap (inPlaces 15) (sym (unnamed
+    (passed (rest .0 .0 .0 .0 .0 .0 .0 .0 .0 .0 .0 .0 .0 .0 .0 .0 .0 .1)
     (passed (rest .0 .0 .0 .0 .0 .0 .0 .0 .0 .0 .0 .0 .0 .0 .0 .0 .1)
     (passed (rest .0 .0 .0 .0 .0 .0 .0 .0 .0 .0 .0 .0 .0 .0 .0 .1)
     (passed (rest .0 .0 .0 .0 .0 .0 .0 .0 .0 .0 .0 .0 .0 .0 .1)
@@ -94,7 +99,7 @@ returns-18 c =
     (passed (rest .0 .0 .0 .1)
     (passed (rest .0 .0 .1)
     (passed (rest .0 .1)
-    (passed (rest .1) none)))))))))))))))))))
+    (passed (rest .1) none))))))))))))))))))))
 
 pub answer-name-spec : {M : Type 1} → statement M
 answer-name-spec =
@@ -117,4 +122,5 @@ answer-name-spec =
     returns-15
     returns-16
     returns-17
-    returns-18)
+    returns-18
+    returns-19)

@@ -1,0 +1,4 @@
+-- For the inner contracts, in reading order.
+pub mod Pieces
+pub mod Nodes
+pub mod Scanned
