@@ -1,13 +1,14 @@
 -- What six words say, one after the other. Assumes nothing.
-use mathlib.Core.List.{List}
+use mathlib.Core.List.{List, [], _∷_}
 use mathlib.Core.Option.{Option, none, some}
-use mathlib.Core.Path.{_≡_, sym, ap, subst, _∙_}
+use mathlib.Core.Path.{_≡_, refl, sym, ap, subst, _∙_}
 use Prim.Native.Nat.{ℕ, _+_, _≤_}
 use native.Mathlib.Omega.{arith}
-use lib.ListN.{length, take}
-use Rattle.lines.specs.Lines.{Line, says, records, space, split, saidBy}
+use borrow.Author.Tests.{eq-eqb, ne-eqb}
+use lib.ListN.{length, take, getD}
+use Rattle.lines.specs.Lines.{Line, says, records, hash, space, split, saidBy, lineOf}
 use Rattle.numerals.specs.Numbers.{decimal, bits}
-use Rattle.lines.specs.Reads.{part, Reads, reads, misses, InOrder, SixWords, six, other, saidAt, Tells, breaks}
+use Rattle.lines.specs.Reads.{part, Reads, reads, misses, InOrder, SixWords, six, other, saidAt, Tells, passes, breaks}
 use Rattle.lines.specs.declared.Length.{Length}
 use Rattle.lines.specs.declared.Length.the-variants as Length
 use Rattle.lines.specs.declared.Words.{Words}
@@ -70,3 +71,20 @@ module _ (line : List ℕ) where
 
 pub told-as : {l l′ : Line} {policy output : List ℕ} {r : Case} → l ≡ l′ → Tells l policy output r → Tells l′ policy output r
 told-as {l} {l′} {policy} {output} {r} e h = subst (λ (x : Line). Tells x policy output r) e h
+
+-- ---- lines that are passed over
+
+pub blank : (line : List ℕ) {policy output : List ℕ} → length line ≡ 0 → Tells (lineOf line) policy output Case.Passed
+unfolding lineOf
+blank [] h = passes refl
+blank (b ∷ s) h = absurd (omega arith)
+
+pub heading : (line : List ℕ) {policy output : List ℕ} → (length line ≡ 0 → ⊥) → getD line 0 0 ≡ hash → Tells (lineOf line) policy output Case.Passed
+unfolding lineOf
+heading [] h e = absurd (h refl)
+heading (b ∷ s) h e = passes (rw (eq-eqb b hash e))
+
+pub case-line : (line : List ℕ) → (length line ≡ 0 → ⊥) → (getD line 0 0 ≡ hash → ⊥) → saidBy (split space line) ≡ lineOf line
+unfolding lineOf
+case-line [] h e = absurd (h refl)
+case-line (b ∷ s) h e = rw (ne-eqb b hash e)

@@ -6,7 +6,7 @@ use mathlib.Core.Path.{_≡_}
 use Prim.Native.Nat.{ℕ, _+_, _-_, _*_, _<_, _≤_}
 use lib.Dec.{eqb}
 use lib.ListN.{length, take, drop}
-use Rattle.lines.specs.Lines.{space, split, Line, broken, says, said}
+use Rattle.lines.specs.Lines.{space, split, Line, passed, broken, says, said}
 use Rattle.lines.specs.declared.Length.{Length}
 use Rattle.lines.specs.declared.Length.the-variants as Length
 use Rattle.lines.specs.declared.Words.{Words}
@@ -62,8 +62,9 @@ saidAt s a b c d e =
 abbrev pub saidIn : Said → (policy output : List ℕ) → Line
 saidIn s policy output = says (s .context) (take (s .policy) policy) (s .number) (take (s .output) output) (s .cost) (s .nodes)
 
--- a line that was read is that case, or is broken
+-- a line that was read is passed over, is that case, or is broken
 pub data Tells (l : Line) (policy output : List ℕ) : Case → Type 0 where
+  passes : l ≡ passed → Tells l policy output Case.Passed
   tells : {s : Said} → l ≡ saidIn s policy output → s .policy ≤ length policy → s .output ≤ length output
       → Tells l policy output (Case.Says s)
   breaks : l ≡ broken → Tells l policy output Case.Broken

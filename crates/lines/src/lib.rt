@@ -1,16 +1,14 @@
 // What a line of the stored list says: docs/BENCH.md, "The stored list".
 //
-// The contracts cite specs/Lines.antt; those of the parts of the reading specs/Reads.antt as well. No contract can say what is written to a
-// descriptor.
+// The contracts cite specs/Lines.antt; those of the parts of the reading specs/Reads.antt as well.
 ghost use mathlib.Core.Path.{_≡_};
-ghost use Prim.Native.Nat.{_+_, _*_, _<_, _≤_};
+ghost use Prim.Native.Nat.{_+_, _*_, _≤_};
 ghost use lib.ListN.{length};
 ghost use Rattle.numerals.specs.Numbers.{found32, found64};
 ghost use Rattle.numerals.specs.Numbers.{decimal as Numbers·decimal, bits as Numbers·bits};
-ghost use Rattle.lines.specs.Lines.{space, split, saidBy};
+ghost use Rattle.lines.specs.Lines.{space, split, saidBy, lineOf};
 ghost use Rattle.lines.specs.Lines.{bytes as Lines·bytes, records as Lines·records};
 ghost use Rattle.lines.specs.Reads.{part, EndsAt, Reads, SixWords, InOrder, saidAt, Tells};
-use libc::STDOUT_FILENO;
 use numerals::NO_DIGIT;
 use numerals::Number32;
 use numerals::Number64;
@@ -19,6 +17,8 @@ use numerals::decimal;
 use numerals::digit;
 
 const SPACE: u8 = 32;
+
+const HASH: u8 = 35;
 
 const DASH: u8 = 45;
 
@@ -44,8 +44,9 @@ pub struct Said {
     pub nodes: u32,
 }
 
-// What reading a case finds.
+// What reading a line finds.
 pub enum Case {
+    Passed,
     Says(Said),
     Broken,
 }
@@ -206,7 +207,7 @@ fn case_in(
 }
 
 // What the words of a line say.
-pub fn case_of(line: &[u8], policy: &mut [u8], output: &mut [u8]) -> Case
+fn case_of(line: &[u8], policy: &mut [u8], output: &mut [u8]) -> Case
     requires { ⌜ (length (now line) ≤ 2 * length (now policy)) × (length (now line) ≤ 2 * length (now output)) ⌝ }
     ensures { λ r. ⌜ Tells (saidBy (split space (now (line .entry)))) (now (policy .exit)) (now (output .exit)) r ⌝ }
 {
@@ -216,37 +217,16 @@ pub fn case_of(line: &[u8], policy: &mut [u8], output: &mut [u8]) -> Case
     }
 }
 
-// The upper-case hexadecimal digit of a value.
-fn digit_of(d: u8) -> u8
-    requires { ⌜ d < 16 ⌝ }
+// What a line says, the policy and the output put at the front of their rooms, each of at least half the line.
+pub fn read_line(line: &[u8], policy: &mut [u8], output: &mut [u8]) -> Case
+    requires { ⌜ (length (now line) ≤ 2 * length (now policy)) × (length (now line) ≤ 2 * length (now output)) ⌝ }
+    ensures { λ r. ⌜ Tells (lineOf (now (line .entry))) (now (policy .exit)) (now (output .exit)) r ⌝ }
 {
-    if d < 10 { 48 + d } else { 55 + d }
-}
-
-// Writes the two digits of a byte to standard output.
-fn show_byte(b: u8) {
-    let text = [digit_of(b / 16), digit_of(b % 16)];
-    io::write_all(STDOUT_FILENO, &text);
-}
-
-// Writes records to standard output as the list has them.
-pub fn show_records(s: &[u8]) {
-    if s.len() == 0 {
-        io::write_all(STDOUT_FILENO, b"-");
-        return;
+    if line.len() == 0 {
+        return Case::Passed;
     }
-    let mut i = 0;
-    while i < s.len() {
-        show_byte(s[i]);
-        i += 1;
+    if line[0] == HASH {
+        return Case::Passed;
     }
-}
-
-// Writes 64 bits to standard output as the list has them.
-pub fn show_bits(w: u64) {
-    let mut place: u64 = 72_057_594_037_927_936;
-    while 0 < place {
-        show_byte((w / place % 256) as u8);
-        place /= 256;
-    }
+    case_of(line, policy, output)
 }

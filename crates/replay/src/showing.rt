@@ -1,7 +1,6 @@
 // What the replay writes to standard output. Its functions are safe and end; no contract can say what they write.
+use answers::show_answer;
 use libc::STDOUT_FILENO;
-use lines::show_bits;
-use lines::show_records;
 use verdicts::Tally;
 use verdicts::Verdict;
 
@@ -10,17 +9,10 @@ fn show_place(n: u64) {
     io::print_decimal(STDOUT_FILENO, n);
 }
 
-// What the port gave, as the list has it.
-fn show_given(n: u64, number: u32, output: &[u8], cost: u64, nodes: u64) {
+fn show_differing(n: u64, number: u32, output: &[u8], cost: u64, nodes: u64) {
     show_place(n);
     io::write_all(STDOUT_FILENO, b" differs: the port gives ");
-    io::print_decimal(STDOUT_FILENO, number as u64);
-    io::write_all(STDOUT_FILENO, b" ");
-    show_records(output);
-    io::write_all(STDOUT_FILENO, b" ");
-    show_bits(cost);
-    io::write_all(STDOUT_FILENO, b" ");
-    io::print_decimal(STDOUT_FILENO, nodes);
+    show_answer(number, output, cost, nodes);
     io::write_all(STDOUT_FILENO, b"\n");
 }
 
@@ -32,7 +24,7 @@ pub fn show(n: u64, v: Verdict, out: &[u8]) {
         Verdict::Differs(number, bytes, cost, nodes) => {
             let length = bytes as usize;
             if length <= out.len() {
-                show_given(n, number, &out[..length], cost, nodes);
+                show_differing(n, number, &out[..length], cost, nodes);
             }
         }
         Verdict::Broken => {

@@ -13,66 +13,14 @@ use Rattle.memory.specs.Layout.{workWords}
 use Rattle.compilation.specs.AnswersOfTheRust.{sameBytes}
 use Rattle.compilation.specs.Compile.{Outcome, compiled, refusedWith, compile}
 use Rattle.claspwillow.specs.Promises.{numberOfOutcome, outputAfter, bytesWritten, costGiven, nodesUsed, given, CompilePromise}
-use Rattle.lines.specs.Lines.{Line, passed, broken, says, hash, space, split, saidBy, lineOf}
-use Rattle.lines.specs.Reads.{saidIn, Tells, tells, breaks}
+use Rattle.lines.specs.Lines.{Line, passed, broken, says}
+use Rattle.lines.specs.Reads.{saidIn, Tells, passes, tells, breaks}
 use Rattle.verdicts.specs.Verdicts.{outputOf, agrees, judged, Judges, AgreesMeans}
 use Rattle.lines.specs.declared.Said.{Said}
 use Rattle.lines.specs.declared.Case.{Case}
 use Rattle.lines.specs.declared.Case.the-variants as Case
 use Rattle.verdicts.specs.declared.Verdict.{Verdict}
 use Rattle.verdicts.specs.declared.Verdict.the-variants as Verdict
-
--- ---- the same bytes
-
-and-false : (t : Bool) → (t && false) ≡ false
-and-false true = refl
-and-false false = refl
-
-same-cons : (x y : ℕ) (xs ys : List ℕ) → sameBytes (x ∷ xs) (y ∷ ys) ≡ (eqb x y && sameBytes xs ys)
-unfolding sameBytes
-same-cons x y xs ys = refl
-
-same-nil : sameBytes [] [] ≡ true
-unfolding sameBytes
-same-nil = refl
-
-pub other-lengths : (a b : List ℕ) → (length a ≡ length b → ⊥) → sameBytes a b ≡ false
-unfolding sameBytes
-other-lengths [] [] h = absurd (h refl)
-other-lengths [] (y ∷ ys) h = refl
-other-lengths (x ∷ xs) [] h = refl
-other-lengths (x ∷ xs) (y ∷ ys) h = ap (λ (t : Bool). eqb x y && t) (other-lengths xs ys (λ e. h (ap suc e))) ∙ and-false (eqb x y)
-
-pub record Same (a b : List ℕ) (i : ℕ) : Type 0 where
-  pub within : i ≤ length a
-  pub goes : sameBytes a b ≡ sameBytes (drop i a) (drop i b)
-
-module _ (a b : List ℕ) (long : length a ≡ length b) where
-  pub same-first : Same a b 0
-  same-first = record { within = omega arith; goes = refl }
-
-  module _ (i : ℕ) (r : Same a b i) where
-    module _ (h : i < length a) where
-      here : sameBytes a b ≡ (eqb (getD a i 0) (getD b i 0) && sameBytes (drop (suc i) a) (drop (suc i) b))
-      here =
-          r .goes
-          ∙ ap (λ (l : List ℕ). sameBytes l (drop i b)) (drop-cons a i 0 h)
-          ∙ ap (sameBytes (getD a i 0 ∷ drop (suc i) a)) (drop-cons b i 0 (omega arith))
-          ∙ same-cons (getD a i 0) (getD b i 0) (drop (suc i) a) (drop (suc i) b)
-
-      pub same-next : getD a i 0 ≡ getD b i 0 → Same a b (i + 1)
-      same-next e = record { within = omega arith; goes = here ∙ rw (eq-eqb (getD a i 0) (getD b i 0) e, add-one i) }
-
-      pub other-byte : (getD a i 0 ≡ getD b i 0 → ⊥) → sameBytes a b ≡ false
-      other-byte f = here ∙ rw (ne-eqb (getD a i 0) (getD b i 0) f)
-
-    pub same-all : (i < length a → ⊥) → sameBytes a b ≡ true
-    same-all ended =
-        let e : i ≡ length a = omega (arith, r .within) in
-        r .goes
-        ∙ ap (λ (l : List ℕ). sameBytes l (drop i b)) (ap (λ (n : ℕ). drop n a) e ∙ drop-length a)
-        ∙ ap (sameBytes []) (ap (λ (n : ℕ). drop n b) (e ∙ long) ∙ drop-length b)
-        ∙ same-nil
 
 -- ---- what agreeing means
 
@@ -185,24 +133,8 @@ pub judges-as : {l l′ : Line} {out work : List ℕ} {v : Verdict} {out′ work
     → l ≡ l′ → Judges l out work v out′ work′ → Judges l′ out work v out′ work′
 judges-as {l} {l′} {out} {work} {v} {out′} {work′} e h = subst (λ (x : Line). Judges x out work v out′ work′) e h
 
-pub blank : (line out work : List ℕ) → length line ≡ 0 → Judges (lineOf line) out work Verdict.Passed out work
-unfolding lineOf
-blank [] out work h = record { verdict = refl; writes = refl; clears = refl }
-blank (b ∷ s) out work h = absurd (omega arith)
-
-heading-line : (line : List ℕ) → (length line ≡ 0 → ⊥) → getD line 0 0 ≡ hash → passed ≡ lineOf line
-unfolding lineOf
-heading-line [] h e = absurd (h refl)
-heading-line (b ∷ s) h e = rw (eq-eqb b hash e)
-
-pub heading : (line out work : List ℕ) → (length line ≡ 0 → ⊥) → getD line 0 0 ≡ hash
-    → Judges (lineOf line) out work Verdict.Passed out work
-heading line out work h e = judges-as (heading-line line h e) (record { verdict = refl; writes = refl; clears = refl })
-
-pub case-line : (line : List ℕ) → (length line ≡ 0 → ⊥) → (getD line 0 0 ≡ hash → ⊥) → saidBy (split space line) ≡ lineOf line
-unfolding lineOf
-case-line [] h e = absurd (h refl)
-case-line (b ∷ s) h e = rw (ne-eqb b hash e)
+pub judges-passed : {l : Line} (out work : List ℕ) → l ≡ passed → Judges l out work Verdict.Passed out work
+judges-passed out work e = judges-as (sym e) (record { verdict = refl; writes = refl; clears = refl })
 
 pub judges-broken : {l : Line} (out work : List ℕ) → l ≡ broken → Judges l out work Verdict.Broken out work
 judges-broken out work e = judges-as (sym e) (record { verdict = refl; writes = refl; clears = refl })
@@ -212,6 +144,9 @@ told-says : {l : Line} {policy output : List ℕ} {s : Said} → Tells l policy 
     × (s .policy ≤ length policy) × (s .output ≤ length output)
 told-says (tells e h k) = (sym e, h, k)
 
+told-passed : {l : Line} {policy output : List ℕ} → Tells l policy output Case.Passed → l ≡ passed
+told-passed (passes e) = e
+
 told-broken : {l : Line} {policy output : List ℕ} → Tells l policy output Case.Broken → l ≡ broken
 told-broken (breaks e) = e
 
@@ -220,6 +155,9 @@ module _ {l : Line} {policy output : List ℕ} {r : Case} (h : Tells l policy ou
       → (saidIn s policy output ≡ l)
       × (s .policy ≤ length policy) × (s .output ≤ length output)
   says-told e = told-says (subst (λ (x : Case). Tells l policy output x) e h)
+
+  pub passed-told : r ≡ Case.Passed → l ≡ passed
+  passed-told e = told-passed (subst (λ (x : Case). Tells l policy output x) e h)
 
   pub broken-told : r ≡ Case.Broken → l ≡ broken
   broken-told e = told-broken (subst (λ (x : Case). Tells l policy output x) e h)

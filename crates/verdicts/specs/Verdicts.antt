@@ -11,7 +11,6 @@ use Rattle.compilation.specs.AnswersOfTheRust.{sameBytes}
 use Rattle.compilation.specs.Compile.{Outcome, compiled, refusedWith, compile}
 use Rattle.claspwillow.specs.Promises.{numberOfOutcome, outputAfter, bytesWritten, costGiven, nodesUsed}
 use Rattle.lines.specs.Lines.{Line, passed, broken, says, newline, split, lineOf}
-use Rattle.lines.specs.declared.Said.{Said}
 use Rattle.verdicts.specs.declared.Verdict.{Verdict}
 use Rattle.verdicts.specs.declared.Verdict.the-variants as Verdict
 use Rattle.verdicts.specs.declared.Tally.{Tally}
@@ -27,11 +26,6 @@ outputOf (refusedWith n) = []
 abbrev pub agrees : Outcome → (number : ℕ) → (output : List ℕ) → (cost nodes : ℕ) → Bool
 agrees o number output cost nodes =
     eqb (numberOfOutcome o) number && (sameBytes (outputOf o) output && (eqb (costGiven o) cost && eqb (nodesUsed o) nodes))
-
--- the same of what the port gave and a case says
-abbrev pub answers : Said → (number : ℕ) → (written stored : List ℕ) → (cost nodes : ℕ) → Bool
-answers s number written stored cost nodes =
-    eqb number (s .number) && (sameBytes written stored && (eqb cost (s .cost) && eqb nodes (s .nodes)))
 
 abbrev pub judged : Bool → Outcome → Verdict
 judged true o = Verdict.Agrees

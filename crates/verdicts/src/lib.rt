@@ -5,15 +5,13 @@ ghost use mathlib.Core.Path.{_≡_};
 ghost use Prim.Native.Nat.{_*_, _^_, _<_, _≤_};
 ghost use lib.ListN.{length};
 ghost use Rattle.memory.specs.Layout.{workWords};
-ghost use Rattle.compilation.specs.AnswersOfTheRust.{sameBytes};
 ghost use Rattle.lines.specs.Lines.{lineOf};
 ghost use Rattle.lines.specs.Reads.{saidIn};
-ghost use Rattle.verdicts.specs.Verdicts.{answers, Judges, counted as Verdicts·counted};
+ghost use Rattle.verdicts.specs.Verdicts.{Judges, counted as Verdicts·counted};
+use answers::agrees;
 use lines::Case;
 use lines::Said;
-use lines::case_of;
-
-const HASH: u8 = 35;
+use lines::read_line;
 
 // What comes of a line. Where it differs: the number, the length of the output, the bits of the cost and the nodes that the port gave.
 pub enum Verdict {
@@ -28,31 +26,6 @@ pub struct Tally {
     pub agree: u64,
     pub differ: u64,
     pub broken: u64,
-}
-
-// Whether a and b hold the same bytes.
-fn same_bytes(a: &[u8], b: &[u8]) -> bool
-    ensures { λ r. ⌜ r ≡ sameBytes (now (a .entry)) (now (b .entry)) ⌝ }
-{
-    if a.len() != b.len() {
-        return false;
-    }
-    let mut i = 0;
-    while i < a.len() {
-        if a[i] != b[i] {
-            return false;
-        }
-        i += 1;
-    }
-    true
-}
-
-// Whether what the port gave is what a line says.
-fn agrees(said: Said, number: u32, written: &[u8], stored: &[u8], cost: u64, nodes: u64) -> bool
-    ensures { λ r. ⌜ r ≡ answers said number (now (written .entry)) (now (stored .entry)) cost nodes ⌝ }
-{
-    let same = same_bytes(written, stored);
-    (number == said.number) & (same & ((cost == said.cost) & (nodes == said.nodes as u64)))
 }
 
 // Compiles the policy of a case and compares.
@@ -92,13 +65,8 @@ pub fn judge_line(
     requires { ⌜ (length (now line) ≤ 2 * length (now policy)) × (length (now line) ≤ 2 * length (now stored)) × (length (now work) ≡ workWords) ⌝ }
     ensures { λ r. ⌜ Judges (lineOf (now (line .entry))) (now (out .entry)) (now (work .entry)) r (now (out .exit)) (now (work .exit)) ⌝ }
 {
-    if line.len() == 0 {
-        return Verdict::Passed;
-    }
-    if line[0] == HASH {
-        return Verdict::Passed;
-    }
-    match case_of(line, policy, stored) {
+    match read_line(line, policy, stored) {
+        Case::Passed => Verdict::Passed,
         Case::Says(said) => judge_case(said, policy, stored, out, work),
         Case::Broken => Verdict::Broken,
     }

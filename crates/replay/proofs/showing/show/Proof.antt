@@ -14,14 +14,14 @@ enum-told-2 c = search needs
 enum-known-v : tie.Need-enum-known-v
 enum-known-v c = search needs
 
-slice-aggregate-show-given : tie.Need-slice-aggregate-show-given
-slice-aggregate-show-given c =
+slice-aggregate-show-differing : tie.Need-slice-aggregate-show-differing
+slice-aggregate-show-differing c =
     let args = c .before .before .before .before .before .before .args in
     let if1 = c .before .if1 in
     sym (length-take-le _ (args .out .now) (if1 .taken))
 
-show-given-requires : tie.Need-show-given-requires
-show-given-requires c κs = search needs
+show-differing-requires : tie.Need-show-differing-requires
+show-differing-requires c κs = search needs
 
 enum-told-3 : tie.Need-enum-told-3
 enum-told-3 c = search needs
@@ -57,8 +57,8 @@ show-spec =
     enum-told
     enum-told-2
     enum-known-v
-    slice-aggregate-show-given
-    show-given-requires
+    slice-aggregate-show-differing
+    show-differing-requires
     enum-told-3
     show-place-requires
     slice-aggregate-write-all

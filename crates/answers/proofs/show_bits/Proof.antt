@@ -1,6 +1,6 @@
 use borrow.Author.Needs.{needs}
-use Rattle.lines.proofs.show_bits.Statement.{statement}
-use Rattle.lines.proofs.show_bits.Tie as tie
+use Rattle.answers.proofs.show_bits.Statement.{statement}
+use Rattle.answers.proofs.show_bits.Tie as tie
 
 abbrev Inv-loop : tie.InvT-loop
 Inv-loop w place₀ place = Unit {0}

@@ -1,7 +1,7 @@
--- `verdicts::agrees` meets its contract: each of the four by itself. Assumes nothing.
+-- `answers::agrees` meets its contract: each of the four by itself. Assumes nothing.
 use borrow.Author.Needs.{needs}
-use Rattle.verdicts.proofs.agrees.Statement.{statement}
-use Rattle.verdicts.proofs.agrees.Tie as tie
+use Rattle.answers.proofs.agrees.Statement.{statement}
+use Rattle.answers.proofs.agrees.Tie as tie
 
 same-bytes-requires : tie.Need-same-bytes-requires
 same-bytes-requires c κs = tt

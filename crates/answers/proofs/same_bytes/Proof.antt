@@ -1,11 +1,11 @@
--- `verdicts::same_bytes` meets its contract: byte by byte. Assumes nothing.
+-- `answers::same_bytes` meets its contract: byte by byte. Assumes nothing.
 use mathlib.Core.Path.{sym}
 use Prim.Native.Nat.{_-_}
 use native.Mathlib.Omega.{arith}
 use lib.ListN.{length}
-use Rattle.verdicts.proofs.Agreement.{Same, other-lengths, same-first, same-next, other-byte, same-all}
-use Rattle.verdicts.proofs.same_bytes.Statement.{statement}
-use Rattle.verdicts.proofs.same_bytes.Tie as tie
+use Rattle.answers.proofs.SameBytes.{Same, other-lengths, same-first, same-next, other-byte, same-all}
+use Rattle.answers.proofs.same_bytes.Statement.{statement}
+use Rattle.answers.proofs.same_bytes.Tie as tie
 
 abbrev Inv-loop : tie.InvT-loop
 Inv-loop a b i₀ i = Same a b i

@@ -1,8 +1,8 @@
 use borrow.Author.Needs.{needs}
 use Prim.Native.Nat.{_≤_, _-_}
 use lib.ListN.{length}
-use Rattle.lines.proofs.show_records.Statement.{statement}
-use Rattle.lines.proofs.show_records.Tie as tie
+use Rattle.answers.proofs.show_records.Statement.{statement}
+use Rattle.answers.proofs.show_records.Tie as tie
 
 abbrev Inv-loop : tie.InvT-loop
 Inv-loop s i₀ i = i ≤ length s
