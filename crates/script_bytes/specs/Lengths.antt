@@ -37,7 +37,7 @@ abbrev pub oneKey : (size : ℕ) → Tables
 oneKey size = tables (replicate size 0) [] [] []
 
 -- Trees that the check passes for no bytes may have another figure: Multi in context 1, MultiA in context 0, MultiA of over 16 keys, and a lock of
--- over 5 bytes, the smallest of each.
+-- over 5 bytes. One tree of each; that these are all kinds, or the smallest, is not claimed.
 pub record Differences : Type 0 where
   pub multi-in-1 : Are Tap (oneKey 32) (Multi 1 (0 ∷ [])) 36 37
   pub multiA-in-0 : Are Segwitv0 (oneKey 33) (MultiA 1 (0 ∷ [])) 37 36
