@@ -98,9 +98,7 @@ fn main() {
     );
 
     link("CLASPWILLOW_LIB", "port");
-    link("CLASPWILLOW_SCRIPTING", "scripting");
-    link("CLASPWILLOW_PROBE", "probe");
-    link("CLASPWILLOW_PROBE_THRESHOLDS", "probe_thresholds");
+    link("CLASPWILLOW_SCRIPT_ENTRY", "script_entry");
     println!("cargo:rerun-if-env-changed=MINISCRIPT_SRC");
     println!("cargo:rerun-if-changed=build.rs");
     println!("cargo:rerun-if-changed=src/accessor.rs");

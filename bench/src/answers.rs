@@ -11,7 +11,7 @@ use crate::records::{to_hex, u16s, Writer};
 use crate::room::Counts;
 
 /// The list as it is stored.
-pub const STORED: &str = include_str!("../../crates/replay/data/compile.txt");
+pub const STORED: &str = include_str!("../../crates/oracle_replay/data/compile.txt");
 
 type Case = (u32, Vec<u8>);
 type Test = fn(&Answer, &Counts) -> bool;

@@ -54,14 +54,12 @@ mod figures;
 mod oracle;
 mod outline;
 mod policies;
-#[cfg(any(port, scripting, all(probe, probe_thresholds)))]
+#[cfg(any(port, script_entry))]
 mod port;
 mod random;
 mod records;
 mod room;
-#[cfg(all(probe, probe_thresholds))]
-mod rules;
-#[cfg(scripting)]
+#[cfg(script_entry)]
 mod scripts;
 mod trees;
 
@@ -76,14 +74,13 @@ const USAGE: &str = "usage:
   bench oracle                         answers the lines `CONTEXT POLICY` of standard input, a line each
   bench gen SEED COUNT MAXRECORDS      writes COUNT random lines `CONTEXT POLICY`, of 1 to MAXRECORDS (at most 64) records
   bench damage SEED COUNT MAXRECORDS   writes damaged copies of such lines
-  bench answers                        writes the stored list, crates/replay/data/compile.txt, anew
+  bench answers                        writes the stored list, crates/oracle_replay/data/compile.txt, anew
   bench figures                        compares the Rust's costs with document 01's figures
   bench decode SEED COUNT MAXRECORDS   writes small, stored and COUNT random trees as scripts and has the Rust's decoder read them back
   bench check SEED COUNT MAXRECORDS    runs COUNT random trees of each flavour and context through the Rust's type rules and the port
   bench compile SEED COUNT MAXRECORDS  runs COUNT random policies, some damaged, through the Rust and the port
   bench replay                         runs the stored list through the port
   bench script SEED COUNT MAXRECORDS   runs COUNT random trees of each flavour and context, and tables, through the Rust's decoder and the port
-  bench rules SEED COUNT               runs COUNT rules in each context and COUNT thresholds over random candidates through the Rust and the port
 ";
 
 /// The search recurses, so the work is done on a thread with room for it.
@@ -156,26 +153,15 @@ fn replay() -> Result<bool, String> {
     no_port()
 }
 
-#[cfg(scripting)]
+#[cfg(script_entry)]
 fn script(words: [&str; 3]) -> Result<bool, String> {
     let (seed, count, records) = numbers(words, 4_096)?;
     Ok(scripts::run(seed, count, records))
 }
 
-#[cfg(not(scripting))]
+#[cfg(not(script_entry))]
 fn script(_: [&str; 3]) -> Result<bool, String> {
-    Err("bench: built without crate scripting; CLASPWILLOW_SCRIPTING names its library when bench is built (docs/BENCH.md)\n".to_string())
-}
-
-#[cfg(all(probe, probe_thresholds))]
-fn rules(words: [&str; 2]) -> Result<bool, String> {
-    let (seed, count) = (number(words[0])?, number(words[1])?);
-    Ok(rules::run(seed, count) & rules::thresholds(seed, count))
-}
-
-#[cfg(not(all(probe, probe_thresholds)))]
-fn rules(_: [&str; 2]) -> Result<bool, String> {
-    Err("bench: built without crates probe and probe_thresholds; CLASPWILLOW_PROBE and CLASPWILLOW_PROBE_THRESHOLDS name their libraries (docs/BENCH.md)\n".to_string())
+    Err("bench: built without crate script_entry; CLASPWILLOW_SCRIPT_ENTRY names its library when bench is built (docs/BENCH.md)\n".to_string())
 }
 
 /// Whether all is well; or what is wrong with the words.
@@ -198,7 +184,6 @@ fn run(words: &[&str]) -> Result<bool, String> {
         ["compile", seed, count, records] => compile([seed, count, records]),
         ["replay"] => replay(),
         ["script", seed, count, records] => script([seed, count, records]),
-        ["rules", seed, count] => rules([seed, count]),
         ["figures"] => Ok(figures::run()),
         ["decode", seed, count, records] => {
             let (seed, count, records) = numbers([seed, count, records], 4_096)?;

@@ -3,7 +3,7 @@
 #[cfg(port)]
 use std::slice;
 
-#[cfg(scripting)]
+#[cfg(script_entry)]
 use crate::outline::Tables;
 
 #[cfg(port)]
@@ -25,7 +25,7 @@ extern "C" {
     fn claspwillow_compile_work() -> usize;
 }
 
-#[cfg(scripting)]
+#[cfg(script_entry)]
 extern "C" {
     fn claspwillow_script(
         context: u32,
@@ -46,12 +46,6 @@ extern "C" {
         bytes: *mut u64,
     ) -> u32;
     fn claspwillow_script_work() -> usize;
-}
-
-#[cfg(all(probe, probe_thresholds))]
-extern "C" {
-    fn claspwillow_probe_threshold(k: u32, input: *const u64, input_len: usize, out: *mut u64, out_len: usize) -> u32;
-    fn claspwillow_probe(context: u32, rule: u32, p: u64, q: u64, input: *const u64, input_len: usize, out: *mut u64, out_len: usize) -> u32;
 }
 
 /// The words of work memory that the check asks for.
@@ -97,14 +91,14 @@ pub fn compile(context: u32, policy: &[u8], out: &mut [u8], work: &mut [u64], re
 }
 
 /// The words of work memory that script asks for.
-#[cfg(scripting)]
+#[cfg(script_entry)]
 pub fn script_work() -> usize {
     // SAFETY: the function takes nothing.
     unsafe { claspwillow_script_work() }
 }
 
 /// The number, and the count of bytes as the call left it.
-#[cfg(scripting)]
+#[cfg(script_entry)]
 pub fn script(context: u32, tree: &[u8], tables: &Tables, out: &mut [u8], work: &mut [u64], bytes: &mut u64) -> u32 {
     let [keys, key_hashes, hashes32, hashes20] = tables;
     // SAFETY: each slice is passed as its own pointer and length, and the result as a pointer to one word.
@@ -128,19 +122,4 @@ pub fn script(context: u32, tree: &[u8], tables: &Tables, out: &mut [u8], work: 
             bytes,
         )
     }
-}
-
-/// One rule on candidates given as words (crate `probe`): its number, and what it left in `out`.
-#[cfg(all(probe, probe_thresholds))]
-pub fn probe(context: u32, rule: u32, weights: [u64; 2], input: &[u64], out: &mut [u64]) -> u32 {
-    let [p, q] = weights;
-    // SAFETY: each slice is passed as its own pointer and length.
-    unsafe { claspwillow_probe(context, rule, p, q, input.as_ptr(), input.len(), out.as_mut_ptr(), out.len()) }
-}
-
-/// A Thresh of k over candidates given as words (crate `probe_thresholds`).
-#[cfg(all(probe, probe_thresholds))]
-pub fn probe_threshold(k: u32, input: &[u64], out: &mut [u64]) -> u32 {
-    // SAFETY: each slice is passed as its own pointer and length.
-    unsafe { claspwillow_probe_threshold(k, input.as_ptr(), input.len(), out.as_mut_ptr(), out.len()) }
 }

@@ -3,7 +3,7 @@
 use mathlib.Core.Bool.{Bool, true, false, not, _&&_}
 use mathlib.Core.Path.{_≡_}
 use lib.Dec.{T}
-use Rattle.terms.specs.Bools.{implies}
+use Rattle.contexts.specs.Bools.{implies}
 use Rattle.correctness.specs.CorrectnessRules as corr
 use Rattle.malleability.specs.MalleabilityRules as mall
 use Rattle.bip379.specs.Rust.{Base, Input, Zero, Correctness, Malleability, «Type»}

@@ -12,7 +12,7 @@ use lib.Ieee.Fits.{and-l, and-r}
 use borrow.Author.Tests.{leb-true, leb-false, le-leb, lt-leb, eqb-true, eqb-false, eq-eqb, ne-eqb}
 use Rattle.correctness.specs.Letters.{isB, isW, isZero, isOne, isNonZero}
 use Rattle.malleability.specs.Letters.{isUnique}
-use Rattle.terms.specs.Lists.{all, sum, one}
+use Rattle.contexts.specs.Lists.{all, sum, one}
 use Rattle.correctness.specs.CorrectnessRules.{okIf, correctness, firstB, numArgs, thresholdInput}
 use Rattle.malleability.specs.MalleabilityRules.{malleability, safeCount, allUnique}
 use Rattle.correctness.specs.CorrectnessRules as corr

@@ -4,7 +4,7 @@ use mathlib.Core.Option.{Option}
 use mathlib.Core.Path.{_≡_, refl}
 use lib.Dec.{T}
 use lib.Ieee.Fits.{and-l, and-r}
-use Rattle.terms.specs.Bools.{implies}
+use Rattle.contexts.specs.Bools.{implies}
 use Rattle.types.specs.Sanity.{sane, arises}
 use Rattle.bip379.specs.Rust.{«Type»}
 use Rattle.bip379.specs.Correctness.{Context, p2wsh, tapscript}

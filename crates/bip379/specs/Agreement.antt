@@ -11,7 +11,7 @@ use Rattle.bip379.specs.Rust.{Base, Correctness, Malleability, «Type»,
 use Rattle.bip379.specs.Rust as R
 use Rattle.correctness.specs.Letters.{isZero, isOne, isNonZero}
 use Rattle.malleability.specs.Letters.{isNone, isUnique}
-use Rattle.terms.specs.Lists.{all}
+use Rattle.contexts.specs.Lists.{all}
 use Rattle.types.specs.TypeRules as Rule
 use Rattle.types.specs.Sanity.{sane, arises}
 use Rattle.bip379.specs.Correctness.{Context, Correct, inTapscript, isK, isV, firstBdu}

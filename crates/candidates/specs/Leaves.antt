@@ -1,8 +1,8 @@
 -- The candidates of leaves, from Terminal's leaves in policy/compiler.rs, in document 01's order ("Records"). What a leaf holds stands in
 -- the place of its first child: a number that the caller chooses.
 use Prim.Native.Nat.{ℕ}
-use Rattle.terms.specs.declared.Context.{Context}
-use Rattle.terms.specs.declared.Context.the-variants.{Segwitv0, Tap}
+use Rattle.contexts.specs.declared.Context.{Context}
+use Rattle.contexts.specs.declared.Context.the-variants.{Segwitv0, Tap}
 use Rattle.types.specs.declared.«Type».{«Type»}
 use Rattle.types.specs.TypeRules as type
 use Rattle.figures.specs.declared.ExtData.{ExtData}

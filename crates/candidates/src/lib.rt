@@ -17,7 +17,7 @@ use costs::DissatProb;
 use costs::SigType;
 use costs::cost_1d;
 use figures::ExtData;
-use terms::Context;
+use contexts::Context;
 use types::Type;
 use types::TypeResult;
 

@@ -11,10 +11,10 @@ use lib.ListN.{length, getD, take, drop, set, drop-of-length-le}
 use lib.Seq.{length-take-le, drop-cons, getD-take, take-set-lt}
 use Rattle.writing.specs.WellFormed.{AllBelow}
 use Rattle.costs.specs.Arithmetic.{_⊖_}
-use Rattle.compilation.specs.Candidates.{Candidate}
-use Rattle.compilation.specs.Tables.{Probs, Table, costAt}
-use Rattle.compilation.specs.Search.{Best, mostGaining, nth, othersAsW, arranged}
-use Rattle.laws.proofs.Steps.{mostGaining-gains, mostGaining-other}
+use Rattle.definition.specs.Candidates.{Candidate}
+use Rattle.definition.specs.Tables.{Probs, Table, costAt}
+use Rattle.definition.specs.Search.{Best, mostGaining, nth, othersAsW, arranged}
+use Rattle.definition_laws.proofs.Steps.{mostGaining-gains, mostGaining-other}
 use Rattle.memory.specs.Layout.{workWords, nodeCount}
 use Rattle.nodes.specs.Views.{seen, seenAll}
 use Rattle.choice.specs.Chosen.{priceAt}

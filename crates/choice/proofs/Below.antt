@@ -5,7 +5,7 @@ use Prim.Native.Nat.{ℕ, zero, suc, _<_}
 use native.Mathlib.Omega.{arith}
 use lib.ListN.{length, getD, set}
 use Rattle.writing.specs.WellFormed.{AllBelow}
-use Rattle.compilation.specs.Tables.{Probs, costAt}
+use Rattle.definition.specs.Tables.{Probs, costAt}
 use Rattle.memory.specs.Layout.{nodeCount}
 use Rattle.nodes.specs.Words.{nodeAt}
 use Rattle.nodes.specs.Views.{seen}

@@ -14,9 +14,9 @@ use Rattle.costs.specs.declared.DissatProb.{DissatProb}
 use Rattle.types.specs.declared.«Type».{«Type»}
 use Rattle.correctness.specs.declared.Base.the-variants.{B, W}
 use Rattle.writing.specs.WellFormed.{AllBelow}
-use Rattle.compilation.specs.Candidates.{Candidate}
-use Rattle.compilation.specs.Tables.{Probs, probs, costAt}
-use Rattle.compilation.specs.Search.{cheaper, cheapest}
+use Rattle.definition.specs.Candidates.{Candidate}
+use Rattle.definition.specs.Tables.{Probs, probs, costAt}
+use Rattle.definition.specs.Search.{cheaper, cheapest}
 use Rattle.memory.specs.Layout.{nodeCount}
 use Rattle.nodes.specs.Words.{nodeAt}
 use Rattle.nodes.specs.Views.{seen, seenAll}
@@ -24,7 +24,7 @@ use Rattle.nodes.proofs.Seen.{seen-fields}
 use Rattle.nodes.proofs.Grown.{small-at}
 use Rattle.candidates.specs.declared.Candidate as code
 use Rattle.candidates.specs.Candidates.{costAt as code-cost}
-use Rattle.remembered.specs.Slots.{slotAt}
+use Rattle.cache.specs.Slots.{slotAt}
 use Rattle.choice.specs.declared.Want.{Want}
 use Rattle.choice.specs.declared.Want.the-variants as Want
 use Rattle.choice.specs.declared.Chosen.{Chosen}

@@ -9,17 +9,17 @@ use borrow.Author.Tests.{ne-eqb, eq-eqb}
 use lib.Dec.{eqb}
 use lib.ListN.{length, drop, drop-of-length-le}
 use lib.Seq.{drop-cons}
-use Rattle.terms.specs.declared.Context.{Context}
-use Rattle.terms.specs.declared.Context.the-variants.{Segwitv0, Tap}
-use Rattle.terms.specs.Leaves.{After, Older, Sha256, Hash256, Ripemd160, Hash160}
+use Rattle.contexts.specs.declared.Context.{Context}
+use Rattle.contexts.specs.declared.Context.the-variants.{Segwitv0, Tap}
+use Rattle.contexts.specs.Leaves.{After, Older, Sha256, Hash256, Ripemd160, Hash160}
 use Rattle.policies.specs.declared.Head.{Head}
 use Rattle.policies.specs.Policy.{Policy, Policies, end, _▹_, toList, Unsatisfiable, Trivial, Key, Lock, Hash, And, Or, Thresh}
 use Rattle.policies.specs.Forms.{nth, kindOf, numberOf, childrenOf}
 use Rattle.policies.specs.Heads.{headOf}
 use Rattle.policies.specs.Array.{policyAt, childNumber, Good, stored}
 use Rattle.policies.proofs.Views.{child-is}
-use Rattle.compilation.specs.Search.{keyOr, keysOf, searchers}
-use Rattle.laws.proofs.Steps.{keysOf-next}
+use Rattle.definition.specs.Search.{keyOr, keysOf, searchers}
+use Rattle.definition_laws.proofs.Steps.{keysOf-next}
 use Rattle.candidates.specs.declared.Candidate.{Candidate}
 use Rattle.candidates.specs.Leaves.{multi, multiA}
 use Rattle.nodes.proofs.Leaves.{multi-seen, multi-a-seen, multi-offers, multi-a-offers}

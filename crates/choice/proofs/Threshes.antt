@@ -7,7 +7,7 @@ use native.Mathlib.Omega.{arith}
 use borrow.Author.Tests.{le-leb}
 use lib.ListN.{length, getD, take}
 use lib.Seq.{take-suc, take-all, length-take-le}
-use Rattle.terms.specs.declared.Context.{Context}
+use Rattle.contexts.specs.declared.Context.{Context}
 use Rattle.types.specs.declared.«Type».{«Type»}
 use Rattle.types.specs.declared.TypeResult.{TypeResult}
 use Rattle.types.specs.declared.TypeResult.the-variants as TypeResult
@@ -27,9 +27,9 @@ use Rattle.policies.specs.Array.{policyAt}
 use Rattle.trees.specs.Fragment.{Fragment, Thresh}
 use Rattle.trees.specs.Tree.{find}
 use Rattle.writing.specs.WellFormed.{AllBelow}
-use Rattle.compilation.specs.Candidates as definition
-use Rattle.compilation.specs.Candidates.{fragments}
-use Rattle.compilation.specs.Tables.{Table}
+use Rattle.definition.specs.Candidates as definition
+use Rattle.definition.specs.Candidates.{fragments}
+use Rattle.definition.specs.Tables.{Table}
 use Rattle.candidates.specs.declared.Candidate.{Candidate}
 use Rattle.candidates.specs.declared.Made.{Made}
 use Rattle.candidates.specs.declared.Made.the-variants as Made

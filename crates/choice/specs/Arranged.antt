@@ -1,5 +1,5 @@
 -- The children of a Thresh: each is chosen as E and as W, and the one that gains most by being the E stands first, from the Thresh of
--- `best_compilations` in policy/compiler.rs, by the definition (compilation, specs/Search.antt: Best, mostGaining, arranged) on what the
+-- `best_compilations` in policy/compiler.rs, by the definition (definition, specs/Search.antt: Best, mostGaining, arranged) on what the
 -- numbers of nodes stand for. Assumes nothing.
 use mathlib.Core.Bool.{false}
 use mathlib.Core.List.{List, [], _∷_}
@@ -9,8 +9,8 @@ use lib.Ieee.{Float, inf}
 use lib.ListN.{take}
 use Rattle.writing.specs.WellFormed.{AllBelow}
 use Rattle.costs.specs.Arithmetic.{_⊖_}
-use Rattle.compilation.specs.Tables.{Probs}
-use Rattle.compilation.specs.Search.{Best, mostGaining, arranged}
+use Rattle.definition.specs.Tables.{Probs}
+use Rattle.definition.specs.Search.{Best, mostGaining, arranged}
 use Rattle.nodes.specs.Views.{seen, seenAll}
 use Rattle.choice.specs.Chosen.{priceAt}
 

@@ -1,4 +1,4 @@
--- The cheapest entry of a remembered table that suits, from `best` and `best_t` in policy/compiler.rs, by the definition (compilation,
+-- The cheapest entry of a remembered table that suits, from `best` and `best_t` in policy/compiler.rs, by the definition (definition,
 -- specs/Search.antt: cheapest) on what the entries stand for. Assumes nothing.
 use mathlib.Core.Bool.{Bool, cond, _&&_}
 use mathlib.Core.List.{List}
@@ -12,14 +12,14 @@ use Rattle.correctness.specs.declared.Base.the-variants.{B, W}
 use Rattle.types.specs.declared.«Type».{«Type»}
 use Rattle.correctness.specs.Letters.{baseEq}
 use Rattle.malleability.specs.Letters.{isUnique}
-use Rattle.compilation.specs.Candidates.{Candidate}
-use Rattle.compilation.specs.Tables.{Probs}
-use Rattle.compilation.specs.Search.{suitsThresh, isBaseB, cheapest}
+use Rattle.definition.specs.Candidates.{Candidate}
+use Rattle.definition.specs.Tables.{Probs}
+use Rattle.definition.specs.Search.{suitsThresh, isBaseB, cheapest}
 use Rattle.candidates.specs.Candidates as code
 use Rattle.memory.specs.Layout.{nodeCount}
 use Rattle.nodes.specs.Words.{nodeAt}
 use Rattle.nodes.specs.Views.{seen}
-use Rattle.recall.specs.State.{slotTable}
+use Rattle.search_state.specs.State.{slotTable}
 use Rattle.choice.specs.declared.Want.{Want}
 use Rattle.choice.specs.declared.Want.the-variants as Want
 use Rattle.choice.specs.declared.Chosen.{Chosen}

@@ -1,17 +1,17 @@
 -- A Thresh all of whose children are keys, and its Multi or MultiA, from the Thresh of `best_compilations` in policy/compiler.rs, by the
--- definition (compilation, specs/Search.antt: keysOf, and specs/Candidates.antt: multi). Assumes nothing.
+-- definition (definition, specs/Search.antt: keysOf, and specs/Candidates.antt: multi). Assumes nothing.
 use mathlib.Core.Bool.{Bool, true, false}
 use mathlib.Core.List.{List, map}
 use mathlib.Core.Option.{Option, none, some}
 use mathlib.Core.Path.{_≡_}
 use Prim.Native.Nat.{ℕ, _≤_}
 use lib.ListN.{length}
-use Rattle.terms.specs.declared.Context.{Context}
+use Rattle.contexts.specs.declared.Context.{Context}
 use Rattle.policies.specs.Policy.{Policy, Policies, toList, Thresh}
 use Rattle.policies.specs.Forms.{numberOf}
 use Rattle.policies.specs.Array.{policyAt}
-use Rattle.compilation.specs.Candidates.{multi}
-use Rattle.compilation.specs.Search.{keysOf, searchers}
+use Rattle.definition.specs.Candidates.{multi}
+use Rattle.definition.specs.Search.{keysOf, searchers}
 use Rattle.candidates.specs.declared.Candidate.{Candidate}
 use Rattle.nodes.specs.Views.{offered}
 use Rattle.nodes.specs.Offers.{Offerable}

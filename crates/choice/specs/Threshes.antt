@@ -1,11 +1,11 @@
--- The Thresh over a row of nodes, from the Thresh of `best_compilations` in policy/compiler.rs, by the definition (compilation,
+-- The Thresh over a row of nodes, from the Thresh of `best_compilations` in policy/compiler.rs, by the definition (definition,
 -- specs/Candidates.antt: threshOf) on what the nodes stand for. Assumes nothing.
 use mathlib.Core.Bool.{Bool, true, false}
 use mathlib.Core.List.{List, map}
 use mathlib.Core.Path.{_≡_}
 use Prim.Native.Nat.{ℕ, suc, _≤_}
 use lib.ListN.{length, take}
-use Rattle.terms.specs.declared.Context.{Context}
+use Rattle.contexts.specs.declared.Context.{Context}
 use Rattle.types.specs.declared.«Type».{«Type»}
 use Rattle.types.specs.TypeRules as type
 use Rattle.figures.specs.declared.ExtData.{ExtData}
@@ -15,7 +15,7 @@ use Rattle.costs.specs.declared.Cost.{Cost}
 use Rattle.costs.specs.Rules as cost
 use Rattle.policies.specs.Forms.{kOf, childrenOf}
 use Rattle.policies.specs.Array.{policyAt}
-use Rattle.compilation.specs.Candidates as definition
+use Rattle.definition.specs.Candidates as definition
 use Rattle.candidates.specs.declared.Candidate.{Candidate}
 use Rattle.candidates.specs.declared.Made.{Made}
 use Rattle.candidates.specs.declared.Made.the-variants as Made

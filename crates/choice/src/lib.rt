@@ -10,11 +10,11 @@ ghost use lib.ListN.{length, take};
 ghost use Rattle.policies.specs.Forms.{kindOf, childrenOf};
 ghost use Rattle.policies.specs.Array.{policyAt, Good};
 ghost use Rattle.writing.specs.WellFormed.{AllBelow};
-ghost use Rattle.compilation.specs.Tables.{probs};
+ghost use Rattle.definition.specs.Tables.{probs};
 ghost use Rattle.memory.specs.Layout.{workWords, maxRows, nodeCount, rowCount};
 ghost use Rattle.nodes.specs.Answers.{Holds};
 ghost use Rattle.memory.specs.Layout.{tableCount};
-ghost use Rattle.remembered.specs.Slots.{slotAt, Kept};
+ghost use Rattle.cache.specs.Slots.{slotAt, Kept};
 ghost use Rattle.choice.specs.Chosen.{suitsAs, suitsType, priceAt, cheaperAt, nextAt, Chooses};
 ghost use Rattle.choice.specs.Arranged.{gainAt, Gains, Arranges};
 ghost use Rattle.choice.specs.Keys.{AllKeys, MultiOf};
@@ -26,7 +26,7 @@ use costs::Cost;
 use costs::Costed;
 use costs::DissatProb;
 use figures::ExtData;
-use terms::Context;
+use contexts::Context;
 use types::Type;
 use types::TypeResult;
 
@@ -134,10 +134,10 @@ pub fn choose(work: &[u64], s: u16, sat: f64, dissat: DissatProb, want: Want) ->
     ensures { λ r. ⌜ Chooses (now (work .entry)) s (probs sat dissat) want r ⌝ }
 {
     let mut best = Chosen::Missing;
-    let mut i = remembered::length_of(work, s);
+    let mut i = cache::length_of(work, s);
     while 0 < i {
         i -= 1;
-        let e = remembered::entry(work, s, i);
+        let e = cache::entry(work, s, i);
         best = next(work, e, best, sat, dissat, want);
     }
     best

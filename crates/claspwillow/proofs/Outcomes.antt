@@ -5,14 +5,14 @@ use Prim.Native.Nat.{ℕ}
 use lib.ListN.{length, drop, replicate}
 use borrow.Author.Tests.{eq-eqb, ne-eqb}
 use Rattle.words.specs.Memory.{zeroed}
-use Rattle.terms.specs.declared.Context.{Context}
-use Rattle.terms.specs.declared.Context.the-variants.{Segwitv0, Tap}
+use Rattle.contexts.specs.declared.Context.{Context}
+use Rattle.contexts.specs.declared.Context.the-variants.{Segwitv0, Tap}
 use Rattle.memory.specs.Layout.{workWords}
 use Rattle.policies.specs.Reading.{readPolicy}
-use Rattle.compilation.specs.Refusals.{BadContext, BadWork}
-use Rattle.compilation.specs.Compile.{Outcome, refusedWith, compileRead, compile}
-use Rattle.compiling.specs.declared.Answer.{Answer}
-use Rattle.compiling.specs.Answers.{Compiles, compiles, refuses}
+use Rattle.definition.specs.Refusals.{BadContext, BadWork}
+use Rattle.definition.specs.Compile.{Outcome, refusedWith, compileRead, compile}
+use Rattle.compile.specs.declared.Answer.{Answer}
+use Rattle.compile.specs.Answers.{Compiles, compiles, refuses}
 use Rattle.claspwillow.specs.Results.{givenIn, numberIn, bytesIn, costIn, nodesIn}
 use Rattle.claspwillow.specs.Promises.{numberOfOutcome, outputAfter, bytesWritten, costGiven, nodesUsed, given, CompilePromise}
 

@@ -11,7 +11,7 @@ use Rattle.trees.specs.Reading.{Answer, refused, done}
 use Rattle.trees.specs.TreeCheck.{checkOf}
 use Rattle.trees.specs.Checked.{typeOnly}
 use Rattle.memory.specs.Layout.{workWords}
-use Rattle.compilation.specs.Compile.{Outcome, compiled, refusedWith, compile}
+use Rattle.definition.specs.Compile.{Outcome, compiled, refusedWith, compile}
 
 -- ---- the tree check
 

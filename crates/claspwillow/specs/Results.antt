@@ -1,17 +1,17 @@
--- What the parts of compile's entry hand on: what one context gives, and the numbers in an answer of the crate compiling (document 01,
+-- What the parts of compile's entry hand on: what one context gives, and the numbers in an answer of the crate compile (document 01,
 -- "Numbers the console shows").
 use mathlib.Core.Bool.{cond}
 use mathlib.Core.List.{List}
 use Prim.Native.Nat.{ℕ}
 use lib.Dec.{eqb}
 use lib.ListN.{length}
-use Rattle.terms.specs.declared.Context.{Context}
+use Rattle.contexts.specs.declared.Context.{Context}
 use Rattle.memory.specs.Layout.{workWords}
 use Rattle.policies.specs.Reading.{readPolicy}
-use Rattle.compilation.specs.Refusals.{BadWork}
-use Rattle.compilation.specs.Compile.{Outcome, refusedWith, compileRead}
-use Rattle.compiling.specs.declared.Answer.{Answer}
-use Rattle.compiling.specs.declared.Answer.the-variants.{Compiled, Refused}
+use Rattle.definition.specs.Refusals.{BadWork}
+use Rattle.definition.specs.Compile.{Outcome, refusedWith, compileRead}
+use Rattle.compile.specs.declared.Answer.{Answer}
+use Rattle.compile.specs.declared.Answer.the-variants.{Compiled, Refused}
 
 -- what compile gives in a context, for a policy, an output and work memory
 abbrev pub givenIn : Context → (policy out work : List ℕ) → Outcome

@@ -6,11 +6,11 @@ ghost use mathlib.Core.Path.{_≡_};
 ghost use Rattle.memory.specs.Layout.{workWords};
 ghost use Rattle.trees.specs.Reading.{maxRecords};
 ghost use Rattle.trees.specs.Checked.{answerOf};
-ghost use Rattle.compiling.specs.Answers.{Compiles};
+ghost use Rattle.compile.specs.Answers.{Compiles};
 ghost use Rattle.claspwillow.specs.Results.{givenIn, numberIn, bytesIn, costIn, nodesIn};
 ghost use Rattle.claspwillow.specs.Promises.{numberOf, typeNumber, CheckPromise, given, CompilePromise};
-use compiling::Answer;
-use terms::Context;
+use compile::Answer;
+use contexts::Context;
 use trees::Checked;
 
 // The one length of work memory that compile takes, in words.
@@ -80,7 +80,7 @@ fn compile_in(context: Context, policy: &[u8], out: &mut [u8], work: &mut [u64])
     ensures { λ r. ⌜ Compiles (givenIn context (now (policy .entry)) (now (out .entry)) (now (work .entry))) (now (out .entry)) (now (out .exit)) r ⌝ }
 {
     if work.len() == WORK_WORDS {
-        return compiling::compile(context, policy, out, work);
+        return compile::compile(context, policy, out, work);
     }
     Answer::Refused(BAD_WORK)
 }

@@ -6,12 +6,12 @@ use Prim.Native.Nat.{ℕ, suc, _+_, _<_, _≤_}
 use native.Mathlib.Numerals.{add-one}
 use native.Mathlib.Omega.{arith}
 use lib.ListN.{drop}
-use Rattle.terms.specs.declared.Context.{Context}
-use Rattle.compilation.specs.Candidates.{Candidate, Cast, allCasts, castNo}
-use Rattle.compilation.specs.Tables.{Probs}
-use Rattle.compilation.specs.Refusals.{Stored, Res, M, then}
-use Rattle.compilation.specs.Insertion.{Queued, offer, castAll}
-use Rattle.laws.proofs.Steps.{then-done, then-refused, castAll-none, castAll-next}
+use Rattle.contexts.specs.declared.Context.{Context}
+use Rattle.definition.specs.Candidates.{Candidate, Cast, allCasts, castNo}
+use Rattle.definition.specs.Tables.{Probs}
+use Rattle.definition.specs.Refusals.{Stored, Res, M, then}
+use Rattle.definition.specs.Insertion.{Queued, offer, castAll}
+use Rattle.definition_laws.proofs.Steps.{then-done, then-refused, castAll-none, castAll-next}
 use Rattle.memory.specs.Layout.{nodeCount}
 use Rattle.nodes.specs.Views.{seen}
 use Rattle.nodes.specs.Answers.{Holds}

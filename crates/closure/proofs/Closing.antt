@@ -6,14 +6,14 @@ use mathlib.Core.Logic.{_⊎_, ⊎-elim}
 use mathlib.Core.Option.{some}
 use Prim.Native.Nat.{ℕ, suc, _+_, _-_, _<_, _≤_}
 use native.Mathlib.Omega.{arith}
-use Rattle.terms.specs.declared.Context.{Context}
+use Rattle.contexts.specs.declared.Context.{Context}
 use Rattle.candidates.specs.declared.Candidate as code
-use Rattle.compilation.specs.Candidates.{Candidate, allCasts}
-use Rattle.compilation.specs.Tables as definition
-use Rattle.compilation.specs.Tables.{Probs}
-use Rattle.compilation.specs.Refusals.{Stored, Res, then, maxPops, FuelSpent}
-use Rattle.compilation.specs.Insertion.{Queued, queued, offer, castAll, closure, insertClosure}
-use Rattle.laws.proofs.Steps.{then-done, then-refused, closure-nobody, closure-spent, closure-pops, insertClosure-is}
+use Rattle.definition.specs.Candidates.{Candidate, allCasts}
+use Rattle.definition.specs.Tables as definition
+use Rattle.definition.specs.Tables.{Probs}
+use Rattle.definition.specs.Refusals.{Stored, Res, then, maxPops, FuelSpent}
+use Rattle.definition.specs.Insertion.{Queued, queued, offer, castAll, closure, insertClosure}
+use Rattle.definition_laws.proofs.Steps.{then-done, then-refused, closure-nobody, closure-spent, closure-pops, insertClosure-is}
 use Rattle.memory.specs.Layout.{nodeCount}
 use Rattle.nodes.specs.Views.{seen, offered}
 use Rattle.nodes.specs.Answers.{Holds}

@@ -3,17 +3,17 @@ use mathlib.Core.Path.{_≡_, sym, _∙_, ap}
 use mathlib.Core.List.{List, [], _∷_, _++_}
 use mathlib.Core.Option.{Option, none, some}
 use Prim.Native.Nat.{ℕ, _<_, _≤_}
-use Rattle.terms.specs.declared.Context.{Context}
+use Rattle.contexts.specs.declared.Context.{Context}
 use Rattle.figures.specs.Bounds.{Small}
 use Rattle.candidates.specs.declared.Candidate as code
 use Rattle.candidates.specs.declared.CastResult.{CastResult}
 use Rattle.candidates.specs.declared.CastResult.the-variants.{Cast}
 use Rattle.candidates.specs.Casts.{castOf}
-use Rattle.compilation.specs.Candidates.{Candidate, castNo}
-use Rattle.compilation.specs.Tables.{Probs}
-use Rattle.compilation.specs.Refusals.{State, Stored, done, refused, pure}
-use Rattle.compilation.specs.Insertion.{queued, joins, offer}
-use Rattle.laws.proofs.Steps.{then-done, then-refused, offer-none, offer-some}
+use Rattle.definition.specs.Candidates.{Candidate, castNo}
+use Rattle.definition.specs.Tables.{Probs}
+use Rattle.definition.specs.Refusals.{State, Stored, done, refused, pure}
+use Rattle.definition.specs.Insertion.{queued, joins, offer}
+use Rattle.definition_laws.proofs.Steps.{then-done, then-refused, offer-none, offer-some}
 use Rattle.memory.specs.Layout.{nodeCount}
 use Rattle.nodes.specs.Words.{nodeAt}
 use Rattle.nodes.specs.Views.{seen, offered}

@@ -3,8 +3,8 @@ use mathlib.Core.Path.{_≡_, refl, _∙_, ap}
 use mathlib.Core.List.{List, [], _∷_, _++_}
 use Prim.Native.Nat.{ℕ, zero, suc, _+_, _-_, _<_, _≤_}
 use native.Mathlib.Omega.{arith}
-use Rattle.compilation.specs.Candidates.{Candidate}
-use Rattle.compilation.specs.Insertion.{Queued, queued}
+use Rattle.definition.specs.Candidates.{Candidate}
+use Rattle.definition.specs.Insertion.{Queued, queued}
 use Rattle.memory.specs.Layout.{nodeCount}
 use Rattle.nodes.specs.Views.{seen, seenAll}
 use Rattle.nodes.specs.Answers.{Holds, Grows}

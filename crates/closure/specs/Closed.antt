@@ -1,15 +1,15 @@
--- What the closure of casts leaves, by its definition (compilation, specs/Insertion.antt) on what nodes stand for. Acceptances take nodes one after
+-- What the closure of casts leaves, by its definition (definition, specs/Insertion.antt) on what nodes stand for. Acceptances take nodes one after
 -- another, so the candidates that wait are the nodes from some number on. Assumes nothing.
 use mathlib.Core.List.{List, [], _∷_}
 use mathlib.Core.Path.{_≡_}
 use Prim.Native.Nat.{ℕ, zero, suc, _-_, _≤_}
-use Rattle.terms.specs.declared.Context.{Context}
+use Rattle.contexts.specs.declared.Context.{Context}
 use Rattle.candidates.specs.declared.Candidate as code
-use Rattle.compilation.specs.Candidates.{allCasts, castNo}
-use Rattle.compilation.specs.Tables as definition
-use Rattle.compilation.specs.Tables.{Probs}
-use Rattle.compilation.specs.Refusals.{State, Stored, Res, done, refused}
-use Rattle.compilation.specs.Insertion.{queued, offer, castAll, insertClosure}
+use Rattle.definition.specs.Candidates.{allCasts, castNo}
+use Rattle.definition.specs.Tables as definition
+use Rattle.definition.specs.Tables.{Probs}
+use Rattle.definition.specs.Refusals.{State, Stored, Res, done, refused}
+use Rattle.definition.specs.Insertion.{queued, offer, castAll, insertClosure}
 use Rattle.memory.specs.Layout.{nodeCount}
 use Rattle.nodes.specs.Views.{seen, seenAll, offered}
 use Rattle.table.specs.declared.Table.{Table}

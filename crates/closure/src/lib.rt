@@ -3,7 +3,7 @@
 //
 // Its contracts cite `specs/Closed.antt`.
 ghost use Prim.Native.Nat.{_<_};
-ghost use Rattle.compilation.specs.Tables.{probs};
+ghost use Rattle.definition.specs.Tables.{probs};
 ghost use Rattle.memory.specs.Layout.{nodeCount};
 ghost use Rattle.nodes.specs.Answers.{Holds};
 ghost use Rattle.nodes.specs.Offers.{Offerable};
@@ -14,7 +14,7 @@ use candidates::CastResult;
 use costs::DissatProb;
 use table::Offer;
 use table::Table;
-use terms::Context;
+use contexts::Context;
 
 // The casts, and the most elements that one closure pops.
 const CASTS: u8 = 10;

@@ -4,7 +4,7 @@ use mathlib.Core.Path.{_≡_, sym, subst, ap}
 use Prim.Native.Nat.{ℕ, _≤_}
 use native.Mathlib.Omega.{arith}
 use lib.ListN.{length, drop, replicate, length-append, length-replicate}
-use Rattle.compilation.specs.Compile.{Outcome, compiled, refusedWith}
+use Rattle.definition.specs.Compile.{Outcome, compiled, refusedWith}
 use Rattle.claspwillow.specs.Promises.{outputAfter, bytesWritten, given, CompilePromise}
 
 -- a room of zeros has its length

@@ -68,7 +68,7 @@ fn script_of(
     let mut script = [0u8; SCRIPT_ROOM];
     let mut work = [0u64; WORK_WORDS];
     let mut bytes = 0;
-    let number = scripting::claspwillow_script(
+    let number = script_entry::claspwillow_script(
         context,
         tree,
         keys,

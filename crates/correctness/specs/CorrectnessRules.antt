@@ -6,7 +6,7 @@ use lib.Dec.{eqb}
 use Rattle.correctness.specs.Names.{Base, B, K, «V», W, Input, Zero, One, Any, OneNonZero, AnyNonZero, Correctness, CorrectnessResult}
 use Rattle.correctness.specs.declared.CorrectnessResult.the-variants.{Ok, IllTyped}
 use Rattle.correctness.specs.Letters.{isB, isK, isV, isW, baseEq, isZero, isOne, isNonZero}
-use Rattle.terms.specs.Lists.{all, sum}
+use Rattle.contexts.specs.Lists.{all, sum}
 
 -- a base, an input, d and u
 abbrev pub correctness : Base → Input → Bool → Bool → Correctness

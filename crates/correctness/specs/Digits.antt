@@ -2,7 +2,7 @@
 use mathlib.Core.Bool.{cond}
 use Prim.Native.Nat.{ℕ, _+_, _*_, _/_, _%_}
 use lib.Dec.{eqb}
-use Rattle.terms.specs.Bools.{boolRank, boolOf}
+use Rattle.contexts.specs.Bools.{boolRank, boolOf}
 use Rattle.correctness.specs.Names.{Base, B, K, «V», W, Input, Zero, One, Any, OneNonZero, AnyNonZero, Correctness}
 
 abbrev pub baseRank : Base → ℕ

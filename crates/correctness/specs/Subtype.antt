@@ -1,6 +1,6 @@
 -- When one correctness is a subtype of another, from `is_subtype` in types/correctness.rs.
 use mathlib.Core.Bool.{Bool, true, _&&_}
-use Rattle.terms.specs.Bools.{implies}
+use Rattle.contexts.specs.Bools.{implies}
 use Rattle.correctness.specs.Names.{Input, Zero, One, Any, OneNonZero, AnyNonZero, Correctness}
 use Rattle.correctness.specs.Letters.{baseEq, isZero, isOne, isNonZero}
 

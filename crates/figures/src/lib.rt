@@ -13,7 +13,7 @@ ghost use Rattle.figures.specs.Rules.{hash, sha256, hash256, ripemd160, 
 ghost use Rattle.figures.specs.Rules.{castAlt, castSwap, castCheck, dupIf, oneElement, castDupif, castVerify, castNonzero};
 ghost use Rattle.figures.specs.Rules.{castZeronotequal, castTrue, castUnlikely, castLikely};
 ghost use Rattle.figures.specs.Rules.{over, andB, andV, orB, orD, orC, with0, with1, eitherBranch, orI, andOr};
-use terms::Context;
+use contexts::Context;
 
 // Document 01's numbers of the two kinds that one context refuses.
 const MULTI: u16 = 57;

@@ -2,7 +2,7 @@
 use mathlib.Core.Bool.{cond}
 use Prim.Native.Nat.{ℕ, _/_, _%_}
 use lib.Dec.{eqb}
-use Rattle.terms.specs.Bools.{boolOf}
+use Rattle.contexts.specs.Bools.{boolOf}
 use Rattle.malleability.specs.Names.{Dissat, None, Unique, Unknown, Malleability}
 
 abbrev pub dissatRank : Dissat → ℕ

@@ -6,7 +6,7 @@ use lib.Dec.{ltb, leb, eqb}
 use lib.ListN.{length}
 use Rattle.malleability.specs.Names.{Dissat, None, Unique, Unknown, Malleability}
 use Rattle.malleability.specs.Letters.{isNone, isUnique}
-use Rattle.terms.specs.Lists.{all, count}
+use Rattle.contexts.specs.Lists.{all, count}
 
 -- the dissatisfactions, s and m
 abbrev pub malleability : Dissat → Bool → Bool → Malleability

@@ -1,6 +1,6 @@
 -- When one malleability is a subtype of another, from `is_subtype` in types/malleability.rs.
 use mathlib.Core.Bool.{Bool, true, _&&_}
-use Rattle.terms.specs.Bools.{implies}
+use Rattle.contexts.specs.Bools.{implies}
 use Rattle.malleability.specs.Names.{Dissat, None, Unique, Unknown, Malleability}
 use Rattle.malleability.specs.Letters.{isNone, isUnique}
 

@@ -3,7 +3,7 @@
 use mathlib.Core.Bool.{Bool, cond, _&&_}
 use Prim.Native.Nat.{ℕ, _+_}
 use lib.Dec.{ltb, leb, eqb}
-use Rattle.terms.specs.Lists.{one}
+use Rattle.contexts.specs.Lists.{one}
 use Rattle.malleability.specs.Names.{Malleability}
 use Rattle.malleability.specs.declared.MalleabilitySoFar.{MalleabilitySoFar}
 use Rattle.malleability.specs.Letters.{isUnique}

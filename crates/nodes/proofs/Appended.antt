@@ -12,7 +12,7 @@ use Rattle.figures.specs.Bounds.{Entered}
 use Rattle.figures.proofs.Entering.{false-entered, true-entered}
 use Rattle.candidates.specs.declared.Candidate.{Candidate}
 use Rattle.candidates.specs.Leaves.{FALSE, TRUE}
-use Rattle.compilation.specs.Tables.{Table}
+use Rattle.definition.specs.Tables.{Table}
 use Rattle.nodes.specs.declared.Added.the-variants.{At, Full}
 use Rattle.memory.specs.Layout.{workWords, maxNodes, maxRows, rowsFrom, wordAt, nodeCount, tableCount, rowCount}
 use Rattle.nodes.specs.Words.{nodeAt, rowChild}

@@ -13,8 +13,8 @@ use Rattle.figures.specs.declared.ExtData.{ExtData}
 use Rattle.costs.specs.declared.Cost.{Cost}
 use Rattle.trees.specs.Fragment.{Fragment, False, True, Alt, Swap, Check, DupIf, Verify, NonZero, ZeroNotEqual, AndV, OrI}
 use Rattle.trees.specs.Tree.{find}
-use Rattle.compilation.specs.Candidates as definition
-use Rattle.compilation.specs.Candidates.{Candidate, typedAs, castNo}
+use Rattle.definition.specs.Candidates as definition
+use Rattle.definition.specs.Candidates.{Candidate, typedAs, castNo}
 use Rattle.candidates.specs.declared.Candidate as code
 use Rattle.candidates.specs.declared.CastResult.{CastResult}
 use Rattle.candidates.specs.declared.CastResult.the-variants.{Cast, IllTyped, Unknown}

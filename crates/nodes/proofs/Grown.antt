@@ -21,8 +21,8 @@ use Rattle.policies.specs.Array.{policyAt}
 use Rattle.trees.specs.Fragment.{Fragment}
 use Rattle.trees.specs.Tree.{Line, _is_, find}
 use Rattle.writing.specs.WellFormed.{AllBelow}
-use Rattle.compilation.specs.Candidates.{Candidate, candidate, false′}
-use Rattle.compilation.specs.Tables.{Table}
+use Rattle.definition.specs.Candidates.{Candidate, candidate, false′}
+use Rattle.definition.specs.Tables.{Table}
 use Rattle.candidates.specs.declared.Candidate as code
 use Rattle.memory.specs.Layout.{wordAt, nodeCount, rowCount}
 use Rattle.nodes.specs.Words.{nodeAt, rowChild, satIn}

@@ -5,9 +5,9 @@ use mathlib.Core.List.{List, _∷_, map}
 use mathlib.Core.Option.{Option, none, some}
 use Prim.Native.Nat.{ℕ, _≤_}
 use lib.ListN.{length}
-use Rattle.terms.specs.declared.Context.{Context}
-use Rattle.terms.specs.declared.Context.the-variants.{Segwitv0, Tap}
-use Rattle.terms.specs.Leaves.{After, Older, Sha256, Hash256, Ripemd160, Hash160}
+use Rattle.contexts.specs.declared.Context.{Context}
+use Rattle.contexts.specs.declared.Context.the-variants.{Segwitv0, Tap}
+use Rattle.contexts.specs.Leaves.{After, Older, Sha256, Hash256, Ripemd160, Hash160}
 use Rattle.figures.proofs.Entering as entering
 use Rattle.policies.specs.Policy.{Policy, Policies, end, _▹_, toList, Unsatisfiable, Trivial, Key, Lock, Hash, And, Or, Thresh}
 use Rattle.policies.specs.Forms.{numberOf, kOf, childrenOf}
@@ -15,9 +15,9 @@ use Rattle.policies.specs.Array.{policyAt}
 use Rattle.trees.specs.Fragment as tree
 use Rattle.trees.specs.Fragment.{Fragment}
 use Rattle.trees.specs.Tree.{find}
-use Rattle.compilation.specs.Candidates as definition
-use Rattle.compilation.specs.Search as definition-search
-use Rattle.compilation.specs.Search.{policyOf, keyOr, searcher, searchers}
+use Rattle.definition.specs.Candidates as definition
+use Rattle.definition.specs.Search as definition-search
+use Rattle.definition.specs.Search.{policyOf, keyOr, searcher, searchers}
 use Rattle.candidates.specs.declared.Candidate.{Candidate}
 use Rattle.candidates.specs.Leaves.{FALSE, TRUE, pkK, pkH, after, older, sha256, hash256, ripemd160, hash160, multi, multiA}
 use Rattle.memory.specs.Layout.{nodeCount}

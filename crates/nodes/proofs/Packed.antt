@@ -9,9 +9,9 @@ use Rattle.words.proofs.Packing.{digit, rest}
 use Rattle.words.proofs.Floats.{float-again}
 use Rattle.types.specs.declared.«Type».{«Type»}
 use Rattle.types.specs.TypeOrder.{pack, unpack}
-use Rattle.terms.specs.Bools.{boolRank}
+use Rattle.contexts.specs.Bools.{boolRank}
 use Rattle.types.proofs.PackLaws.{pack-lt, unpack-pack}
-use Rattle.terms.proofs.Bools.{bool-of}
+use Rattle.contexts.proofs.Bools.{bool-of}
 use Rattle.figures.specs.declared.SatData.{SatData}
 use Rattle.figures.specs.declared.Sat.{Sat}
 use Rattle.figures.specs.declared.Sat.the-variants as Sat

@@ -17,8 +17,8 @@ use Rattle.costs.specs.declared.Costed.the-variants as Costed
 use Rattle.costs.specs.Rules as cost
 use Rattle.trees.specs.Fragment.{Fragment, AndB, AndV, OrB, OrD, OrC, OrI, AndOr}
 use Rattle.trees.specs.Tree.{find}
-use Rattle.compilation.specs.Candidates as definition
-use Rattle.compilation.specs.Candidates.{Candidate, Pair, pairNo}
+use Rattle.definition.specs.Candidates as definition
+use Rattle.definition.specs.Candidates.{Candidate, Pair, pairNo}
 use Rattle.candidates.specs.declared.Candidate as code
 use Rattle.candidates.specs.declared.Made.{Made}
 use Rattle.candidates.specs.declared.Made.the-variants as Made

@@ -13,7 +13,7 @@ use Rattle.figures.specs.declared.ExtData.{ExtData}
 use Rattle.costs.specs.declared.Cost.{Cost}
 use Rattle.trees.specs.Fragment.{Fragment}
 use Rattle.trees.specs.Tree.{find}
-use Rattle.compilation.specs.Candidates.{Candidate, false′, true′}
+use Rattle.definition.specs.Candidates.{Candidate, false′, true′}
 use Rattle.candidates.specs.declared.Candidate as code
 use Rattle.candidates.specs.Candidates.{candidate}
 use Rattle.candidates.specs.Leaves.{FALSE, TRUE}

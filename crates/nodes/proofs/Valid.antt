@@ -6,17 +6,17 @@ use mathlib.Core.Option.{some}
 use Prim.Native.Nat.{ℕ}
 use borrow.Author.Tests.{eqb-true}
 use lib.Dec.{eqb}
-use Rattle.terms.specs.declared.Context.{Context}
-use Rattle.terms.specs.declared.Context.the-variants.{Segwitv0, Tap}
+use Rattle.contexts.specs.declared.Context.{Context}
+use Rattle.contexts.specs.declared.Context.the-variants.{Segwitv0, Tap}
 use Rattle.figures.specs.declared.ExtData.{ExtData}
 use Rattle.figures.specs.Validity.{checkLocalValidity}
 use Rattle.figures.proofs.Entering.{valid-entered}
 use Rattle.costs.specs.Cost1d.{cost1d}
 use Rattle.trees.specs.Fragment.{Fragment}
 use Rattle.trees.specs.Tree.{Line, find}
-use Rattle.compilation.specs.Candidates.{kindOf}
-use Rattle.compilation.specs.Tables.{Table, Probs, costAt}
-use Rattle.compilation.specs.Insertion.{worthwhile}
+use Rattle.definition.specs.Candidates.{kindOf}
+use Rattle.definition.specs.Tables.{Table, Probs, costAt}
+use Rattle.definition.specs.Insertion.{worthwhile}
 use Rattle.candidates.specs.declared.Candidate.{Candidate}
 use Rattle.nodes.specs.Views.{Parts, makers, makeBy, partsOf, treeOf, seenAs, allNodes, offered}
 use Rattle.nodes.specs.Answers.{Fresh}

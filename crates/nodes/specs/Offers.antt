@@ -4,7 +4,7 @@ use mathlib.Core.List.{List}
 use mathlib.Core.Path.{_≡_}
 use Prim.Native.Nat.{ℕ, _<_}
 use Rattle.figures.specs.Bounds as bounds
-use Rattle.compilation.specs.Candidates as definition
+use Rattle.definition.specs.Candidates as definition
 use Rattle.candidates.specs.declared.Candidate.{Candidate}
 use Rattle.candidates.specs.declared.Made.{Made}
 use Rattle.candidates.specs.declared.Made.the-variants as Made

@@ -6,7 +6,7 @@ use Prim.Native.Nat.{ℕ, zero, suc, _<_, _≤_}
 use mathlib.Core.Path.{_≡_}
 use lib.Dec.{eqb}
 use lib.ListN.{length, getD}
-use Rattle.terms.specs.Leaves.{LockKind, HashKind, After, Older, Sha256, Hash256, Ripemd160, Hash160}
+use Rattle.contexts.specs.Leaves.{LockKind, HashKind, After, Older, Sha256, Hash256, Ripemd160, Hash160}
 use Rattle.policies.specs.Policy.{Policy}
 use Rattle.policies.specs.Forms.{numberOf, kOf, childrenOf}
 use Rattle.policies.specs.Array.{policyAt}
@@ -14,8 +14,8 @@ use Rattle.trees.specs.Fragment.{Fragment, False, True, PkK, PkH, Lock, Hash, A
 use Rattle.trees.specs.Fragment.{AndB, AndV, OrB, OrD, OrC, OrI, AndOr, Thresh, Multi, MultiA}
 use Rattle.trees.specs.Tree.{Line, _is_, find}
 use mathlib.Core.Option.{Option, none, some}
-use Rattle.compilation.specs.Candidates.{Candidate, candidate, false′, fragments}
-use Rattle.compilation.specs.Tables.{Table}
+use Rattle.definition.specs.Candidates.{Candidate, candidate, false′, fragments}
+use Rattle.definition.specs.Tables.{Table}
 use Rattle.candidates.specs.declared.Candidate as code
 use Rattle.memory.specs.Layout.{nodeCount}
 use Rattle.nodes.specs.Words.{nodeAt, rowChild}

@@ -7,7 +7,7 @@ use lib.Dec.{eqb, ltb}
 use Rattle.words.specs.Floats.{wordOfFloat, floatOfWord}
 use Rattle.types.specs.declared.«Type».{«Type»}
 use Rattle.types.specs.TypeOrder.{pack}
-use Rattle.terms.specs.Bools.{boolRank}
+use Rattle.contexts.specs.Bools.{boolRank}
 use Rattle.figures.specs.declared.SatData.{SatData}
 use Rattle.figures.specs.declared.Sat.{Sat}
 use Rattle.figures.specs.declared.Sat.the-variants as Sat

@@ -7,7 +7,7 @@ ghost use mathlib.Core.Path.{_≡_};
 ghost use Prim.Native.Nat.{_+_, _/_, _%_, _^_, _<_, _≤_};
 ghost use lib.ListN.{length};
 ghost use lib.Seq.{sets};
-ghost use Rattle.terms.specs.Bools.{boolRank};
+ghost use Rattle.contexts.specs.Bools.{boolRank};
 ghost use Rattle.memory.specs.Layout.{workWords, maxRows, nodeCount, rowCount};
 ghost use Rattle.nodes.specs.Words.{typeIn, satIn, dissatIn, extIn, costIn, candidateIn, nodeAt, rowChild};
 ghost use Rattle.nodes.specs.Words.{hasSat, hasDissatCost, scriptWord, witnessWord, stackWord};

@@ -3,15 +3,15 @@ use mathlib.Core.Path.{_≡_, sym, _∙_, ap}
 use mathlib.Core.List.{List}
 use mathlib.Core.Option.{Option, none}
 use Prim.Native.Nat.{ℕ, _<_}
-use Rattle.terms.specs.declared.Context.{Context}
+use Rattle.contexts.specs.declared.Context.{Context}
 use Rattle.candidates.specs.declared.Candidate as code
 use Rattle.candidates.specs.declared.CastResult.{CastResult}
 use Rattle.candidates.specs.declared.CastResult.the-variants.{Cast}
 use Rattle.candidates.specs.Casts.{castOf}
-use Rattle.compilation.specs.Candidates.{Candidate, castNo}
-use Rattle.compilation.specs.Tables.{Probs}
-use Rattle.compilation.specs.Search.{insertedIfTyped}
-use Rattle.laws.proofs.Steps.{insertedIfTyped-none, insertedIfTyped-some}
+use Rattle.definition.specs.Candidates.{Candidate, castNo}
+use Rattle.definition.specs.Tables.{Probs}
+use Rattle.definition.specs.Search.{insertedIfTyped}
+use Rattle.definition_laws.proofs.Steps.{insertedIfTyped-none, insertedIfTyped-some}
 use Rattle.memory.specs.Layout.{nodeCount}
 use Rattle.nodes.specs.Words.{nodeAt}
 use Rattle.nodes.specs.Views.{seen, offered}

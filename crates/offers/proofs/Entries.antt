@@ -7,20 +7,20 @@ use native.Mathlib.Numerals.{add-one}
 use native.Mathlib.Omega.{arith}
 use lib.ListN.{length, getD, drop, List·getD-map}
 use lib.Seq.{drop-cons, drop-length}
-use Rattle.terms.specs.declared.Context.{Context}
+use Rattle.contexts.specs.declared.Context.{Context}
 use Rattle.writing.specs.WellFormed.{AllBelow}
-use Rattle.compilation.specs.Candidates.{Candidate, castNo}
-use Rattle.compilation.specs.Tables as definition
-use Rattle.compilation.specs.Tables.{Probs}
-use Rattle.compilation.specs.Refusals.{Stored, Res, M, then}
-use Rattle.compilation.specs.Search.{insertedIfTyped, forEach}
-use Rattle.laws.proofs.Steps.{then-done, then-refused, forEach-none, forEach-next}
+use Rattle.definition.specs.Candidates.{Candidate, castNo}
+use Rattle.definition.specs.Tables as definition
+use Rattle.definition.specs.Tables.{Probs}
+use Rattle.definition.specs.Refusals.{Stored, Res, M, then}
+use Rattle.definition.specs.Search.{insertedIfTyped, forEach}
+use Rattle.definition_laws.proofs.Steps.{then-done, then-refused, forEach-none, forEach-next}
 use Rattle.memory.specs.Layout.{nodeCount, tableCount}
 use Rattle.nodes.specs.Views.{seen}
 use Rattle.nodes.specs.Answers.{Holds}
 use Rattle.nodes.proofs.Grown.{seen-kept}
-use Rattle.remembered.specs.Slots.{Slot, slotAt, Kept}
-use Rattle.remembered.proofs.Tables.{slot-same}
+use Rattle.cache.specs.Slots.{Slot, slotAt, Kept}
+use Rattle.cache.proofs.Tables.{slot-same}
 use Rattle.table.specs.declared.Table.{Table}
 use Rattle.table.specs.Rows.{TableHolds}
 use Rattle.table.specs.Inserted.{stateOf, seenTable, Extends}
@@ -30,7 +30,7 @@ use Rattle.closure.specs.declared.End.the-variants.{Done, Refused}
 use Rattle.closure.specs.declared.Closed.{Closed}
 use Rattle.closure.specs.Closed.{answer}
 use Rattle.closure.proofs.Offering.{closed}
-use Rattle.recall.specs.State.{slotTable}
+use Rattle.search_state.specs.State.{slotTable}
 use Rattle.offers.specs.Offering.{InsertedCast, SlotReady, InsertedCasts}
 
 -- ---- the entries of a slot

@@ -3,19 +3,19 @@ use mathlib.Core.Path.{_≡_, refl, sym, _∙_, ap, subst}
 use mathlib.Core.List.{List, [], _∷_}
 use Prim.Native.Nat.{ℕ, zero, suc, _%_, _<_, _≤_}
 use native.Mathlib.Omega.{arith}
-use Rattle.terms.specs.declared.Context.{Context}
-use Rattle.terms.specs.Leaves.{LockKind, After, Older, HashKind, Sha256, Hash256, Ripemd160, Hash160}
+use Rattle.contexts.specs.declared.Context.{Context}
+use Rattle.contexts.specs.Leaves.{LockKind, After, Older, HashKind, Sha256, Hash256, Ripemd160, Hash160}
 use Rattle.policies.specs.Policy.{Policy, Unsatisfiable, Trivial, Key, Lock, Hash, And, Or, Thresh}
 use Rattle.policies.specs.Forms.{kindOf, numberOf, lockKind, hashKind}
 use Rattle.policies.specs.Array.{policyAt}
 use Rattle.policies.proofs.Forms.{is-unsatisfiable, is-trivial, is-after, is-older, is-sha256, is-hash256, is-ripemd160, is-hash160}
 use Rattle.candidates.specs.declared.Candidate as code
 use Rattle.candidates.specs.Leaves.{FALSE, TRUE, after, older, sha256, hash256, ripemd160, hash160}
-use Rattle.compilation.specs.Candidates as definition
-use Rattle.compilation.specs.Candidates.{Candidate}
-use Rattle.compilation.specs.Search.{leaves}
-use Rattle.laws.specs.FormedPolicy.{FormedPolicy}
-use Rattle.laws.specs.Bodies.{bodyOf}
+use Rattle.definition.specs.Candidates as definition
+use Rattle.definition.specs.Candidates.{Candidate}
+use Rattle.definition.specs.Search.{leaves}
+use Rattle.definition_laws.specs.FormedPolicy.{FormedPolicy}
+use Rattle.definition_laws.specs.Bodies.{bodyOf}
 use Rattle.nodes.specs.Views.{offered}
 use Rattle.nodes.specs.Offers.{Offerable}
 use Rattle.nodes.proofs.Leaves.{false-seen, true-seen, after-seen, older-seen, sha256-seen, hash256-seen, ripemd160-seen, hash160-seen}

@@ -1,32 +1,32 @@
--- What is offered to a table by the search of a leaf, and by the casts of a remembered table's entries, by the definition (compilation,
+-- What is offered to a table by the search of a leaf, and by the casts of a remembered table's entries, by the definition (definition,
 -- specs/Search.antt) on what work memory stands for. Assumes nothing.
 use mathlib.Core.List.{List, [], _∷_}
 use mathlib.Core.Path.{_≡_}
 use Prim.Native.Nat.{ℕ, _<_}
-use Rattle.terms.specs.declared.Context.{Context}
+use Rattle.contexts.specs.declared.Context.{Context}
 use Rattle.policies.specs.Policy.{Policy}
 use Rattle.policies.specs.Forms.{kindOf, numberOf}
 use Rattle.policies.specs.Array.{policyAt}
 use Rattle.writing.specs.WellFormed.{AllBelow}
 use Rattle.candidates.specs.declared.Candidate as node
-use Rattle.compilation.specs.Candidates.{castNo}
-use Rattle.compilation.specs.Tables.{Probs}
-use Rattle.compilation.specs.Refusals.{Stored}
-use Rattle.compilation.specs.Search.{leaves, insertedIfTyped, forEach}
-use Rattle.laws.specs.FormedPolicy.{FormedPolicy}
-use Rattle.laws.specs.Bodies.{bodyOf}
+use Rattle.definition.specs.Candidates.{castNo}
+use Rattle.definition.specs.Tables.{Probs}
+use Rattle.definition.specs.Refusals.{Stored}
+use Rattle.definition.specs.Search.{leaves, insertedIfTyped, forEach}
+use Rattle.definition_laws.specs.FormedPolicy.{FormedPolicy}
+use Rattle.definition_laws.specs.Bodies.{bodyOf}
 use Rattle.memory.specs.Layout.{nodeCount, tableCount}
 use Rattle.nodes.specs.Views.{seen, offered}
 use Rattle.nodes.specs.Answers.{Holds}
 use Rattle.nodes.specs.Offers.{Offerable}
-use Rattle.remembered.specs.Slots.{slotAt, Kept}
+use Rattle.cache.specs.Slots.{slotAt, Kept}
 use Rattle.table.specs.declared.Table as code-table
 use Rattle.table.specs.Rows.{TableHolds}
 use Rattle.table.specs.Inserted.{stateOf, seenTable, Extends}
 use Rattle.closure.specs.declared.End.the-variants.{Done}
 use Rattle.closure.specs.declared.Closed.{Closed}
 use Rattle.closure.specs.Closed.{answer}
-use Rattle.recall.specs.State.{slotTable}
+use Rattle.search_state.specs.State.{slotTable}
 
 -- ---- what a policy is
 

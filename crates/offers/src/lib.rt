@@ -3,7 +3,7 @@
 //
 // Its contracts cite `specs/Offering.antt`.
 ghost use Prim.Native.Nat.{_<_};
-ghost use Rattle.compilation.specs.Tables.{probs};
+ghost use Rattle.definition.specs.Tables.{probs};
 ghost use Rattle.memory.specs.Layout.{nodeCount};
 ghost use Rattle.nodes.specs.Answers.{Holds};
 ghost use Rattle.table.specs.Rows.{TableHolds};
@@ -14,7 +14,7 @@ use closure::Closed;
 use closure::End;
 use costs::DissatProb;
 use table::Table;
-use terms::Context;
+use contexts::Context;
 
 // A table with no entry.
 pub fn empty() -> Closed
@@ -86,11 +86,11 @@ pub fn cast_entries(
     requires { ⌜ SlotReady (now work) s × (TableHolds (now work) t × (number < 10)) ⌝ }
     ensures { λ o. ⌜ InsertedCasts context (probs sat dissat) s number t o (now (work .entry)) (now (work .exit)) ⌝ }
 {
-    let n = remembered::length_of(work, s);
+    let n = cache::length_of(work, s);
     let mut table = t;
     let mut j = 0;
     while j < n {
-        let e = remembered::entry(work, s, j);
+        let e = cache::entry(work, s, j);
         let c = insert_cast(context, work, sat, dissat, e, number, table);
         table = c.table;
         let end = c.end;

@@ -8,7 +8,7 @@ use native.Mathlib.Omega.{arith}
 use lib.ListN.{length, getD, set, take, drop, length-set}
 use lib.Seq.{sets, length-sets, sets-eq, take-suc-set}
 use Rattle.words.specs.Bytes.{bytesOf}
-use Rattle.terms.specs.Leaves.{After, Older, Sha256, Hash256, Ripemd160, Hash160}
+use Rattle.contexts.specs.Leaves.{After, Older, Sha256, Hash256, Ripemd160, Hash160}
 use Rattle.trees.specs.Fragment.{Fragment, Fragments, end, _▹_, False, True, PkK, PkH, Lock, Hash}
 use Rattle.trees.specs.Fragment.{Alt, Swap, Check, DupIf, Verify, NonZero, ZeroNotEqual}
 use Rattle.trees.specs.Fragment.{AndB, AndV, OrB, OrD, OrC, OrI, AndOr, Thresh, Multi, MultiA}

@@ -17,8 +17,8 @@ use Rattle.trees.specs.WorkMemory.{arity}
 use Rattle.writing.specs.Writing.{Node, node, Nodes, nil, _▸_, leaf, inRow, kAndN, nodeOf, nodesOf}
 use Rattle.policies.specs.Forms.{numberOf, kOf, childrenOf}
 use Rattle.policies.proofs.Ranges.{Each, each}
-use Rattle.compilation.specs.Candidates.{Candidate, false′, fragments}
-use Rattle.compilation.specs.Tables.{Table}
+use Rattle.definition.specs.Candidates.{Candidate, false′, fragments}
+use Rattle.definition.specs.Tables.{Table}
 use Rattle.memory.specs.Layout.{nodeCount}
 use Rattle.nodes.specs.Words.{nodeAt, rowChild}
 use Rattle.nodes.specs.Views.{among, rowAt, Parts, makers, makeBy, partsOf, treeOf, seenAs, firstNodes, seen, keysOf}

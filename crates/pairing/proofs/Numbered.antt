@@ -8,8 +8,8 @@ use mathlib.Core.Logic.{⊎-elim}
 use lib.Arith.{digits-lt}
 use lib.ListN.{length, getD, length-append, length-map, List·getD-append, List·getD-map}
 use lib.Seq.{getD-append-add}
-use Rattle.compilation.specs.Candidates.{Candidate, Made}
-use Rattle.compilation.specs.Tables.{Table}
+use Rattle.definition.specs.Candidates.{Candidate, Made}
+use Rattle.definition.specs.Tables.{Table}
 use Rattle.pairing.specs.Mades.{pairsOf, triplesOf}
 
 pub map-at : {A B : Type 0} (f : A → B) (xs : List A) (i : ℕ) (d : A) (e : B) → i < length xs → getD (map f xs) i e ≡ f (getD xs i d)

@@ -11,8 +11,8 @@ use lib.Dec.{eqb}
 use lib.ListN.{length, getD, length-map}
 use Rattle.figures.specs.Bounds.{Small}
 use Rattle.writing.specs.WellFormed.{AllBelow}
-use Rattle.compilation.specs.Candidates.{passedOver, pairNo}
-use Rattle.compilation.specs.Candidates as definition
+use Rattle.definition.specs.Candidates.{passedOver, pairNo}
+use Rattle.definition.specs.Candidates as definition
 use Rattle.candidates.specs.declared.Candidate as node
 use Rattle.candidates.specs.declared.Made as code
 use Rattle.candidates.specs.Pairs.{pairOf, andOr}
@@ -22,8 +22,8 @@ use Rattle.nodes.specs.Views.{seen}
 use Rattle.nodes.proofs.Grown.{small-at}
 use Rattle.nodes.proofs.Pairs.{pair-seen, and-or-seen, pair-fresh, and-or-fresh}
 use Rattle.memory.specs.Layout.{tableCount}
-use Rattle.remembered.specs.Slots.{slotAt}
-use Rattle.remembered.proofs.Tables.{entries-few}
+use Rattle.cache.specs.Slots.{slotAt}
+use Rattle.cache.proofs.Tables.{entries-few}
 use Rattle.stages.specs.declared.Pairing.{Pairing}
 use Rattle.pairing.specs.Mades.{pairsOf, triplesOf, entriesAt, tableAt, madesOf, lengthAt, countOf}
 use Rattle.nodes.specs.Offers.{madeSeen}

@@ -11,21 +11,21 @@ use lib.Dec.{eqb, ltb}
 use lib.ListN.{length, getD, drop, take, set}
 use lib.Seq.{drop-length, getD-take, length-take-le, take-suc-set}
 use lib.Ieee.{Float}
-use Rattle.terms.specs.declared.Context.{Context}
+use Rattle.contexts.specs.declared.Context.{Context}
 use Rattle.writing.specs.WellFormed.{AllBelow}
-use Rattle.compilation.specs.Candidates.{Candidate, Made, Pair, passedOver, andOr, pairNo}
-use Rattle.compilation.specs.Tables.{Probs, Table}
-use Rattle.compilation.specs.Refusals.{M, State, Res, done, then}
-use Rattle.compilation.specs.Search.{Again, forEach, wrappedIfMade, binary, ternary}
-use Rattle.laws.proofs.Steps.{then-then}
+use Rattle.definition.specs.Candidates.{Candidate, Made, Pair, passedOver, andOr, pairNo}
+use Rattle.definition.specs.Tables.{Probs, Table}
+use Rattle.definition.specs.Refusals.{M, State, Res, done, then}
+use Rattle.definition.specs.Search.{Again, forEach, wrappedIfMade, binary, ternary}
+use Rattle.definition_laws.proofs.Steps.{then-then}
 use Rattle.memory.specs.Layout.{nodeCount}
 use Rattle.nodes.specs.Views.{seen, seenAll}
 use Rattle.nodes.specs.Answers.{Holds}
 use Rattle.nodes.proofs.Seen.{seen-false}
 use Rattle.nodes.proofs.Grown.{seen-kept}
 use Rattle.memory.specs.Layout.{tableCount}
-use Rattle.remembered.specs.Slots.{Slot, slotAt, Kept}
-use Rattle.recall.specs.State.{slotTable, Ready, Onward}
+use Rattle.cache.specs.Slots.{Slot, slotAt, Kept}
+use Rattle.search_state.specs.State.{slotTable, Ready, Onward}
 use Rattle.stages.specs.declared.Pairing.{Pairing}
 use Rattle.stages.specs.Stages.{False, tableNo, paired, andPairings, andOrPairings, orPairings}
 use Rattle.pairing.specs.Mades.{pairsOf, triplesOf, forMades, entriesAt, tableAt, madesOf, countOf, PlaceHolds, Paired}

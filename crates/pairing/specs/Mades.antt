@@ -7,9 +7,9 @@ use Prim.Native.Nat.{ℕ, _*_, _<_, _≤_}
 use lib.Dec.{eqb}
 use lib.ListN.{length, getD}
 use Rattle.writing.specs.WellFormed.{AllBelow}
-use Rattle.compilation.specs.Candidates.{Candidate, Made, passedOver, andOr, pairNo}
-use Rattle.compilation.specs.Tables.{Table}
-use Rattle.compilation.specs.Refusals.{M, _>>=_, pure}
+use Rattle.definition.specs.Candidates.{Candidate, Made, passedOver, andOr, pairNo}
+use Rattle.definition.specs.Tables.{Table}
+use Rattle.definition.specs.Refusals.{M, _>>=_, pure}
 use Rattle.candidates.specs.declared.Candidate as node
 use Rattle.candidates.specs.declared.Made as code
 use Rattle.candidates.specs.declared.Made.the-variants as Made
@@ -18,7 +18,7 @@ use Rattle.nodes.specs.Views.{seenAll}
 use Rattle.nodes.specs.Answers.{Holds}
 use Rattle.nodes.specs.Offers.{Offerable, madeSeen}
 use Rattle.memory.specs.Layout.{tableCount}
-use Rattle.remembered.specs.Slots.{slotAt, Kept}
+use Rattle.cache.specs.Slots.{slotAt, Kept}
 use Rattle.stages.specs.declared.Pairing.{Pairing}
 use Rattle.stages.specs.Stages.{False}
 

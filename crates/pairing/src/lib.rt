@@ -9,13 +9,13 @@ ghost use lib.ListN.{getD};
 ghost use lib.Dec.{eqb};
 ghost use mathlib.Core.Bool.{true, false};
 ghost use Rattle.memory.specs.Layout.{nodeCount};
-ghost use Rattle.remembered.specs.Slots.{Kept};
+ghost use Rattle.cache.specs.Slots.{Kept};
 ghost use Rattle.pairing.specs.Mades.{entriesAt, lengthAt, countOf, PlaceHolds, Paired, Counted, MadeAt};
 use candidates::Candidate;
 use candidates::Made;
 use nodes::node;
-use remembered::entry;
-use remembered::length_of;
+use cache::entry;
+use cache::length_of;
 use stages::Pairing;
 
 // The kind of a triple.

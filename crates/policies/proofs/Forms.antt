@@ -8,7 +8,7 @@ use borrow.Author.Tests.{ne-eqb, eqb-true}
 use lib.Dec.{eqb}
 use lib.ListN.{length}
 use Rattle.policies.specs.Policy.{Policy, Policies, end, _▹_, toList, fromList}
-use Rattle.terms.specs.Leaves.{After, Older, Sha256, Hash256, Ripemd160, Hash160}
+use Rattle.contexts.specs.Leaves.{After, Older, Sha256, Hash256, Ripemd160, Hash160}
 use Rattle.policies.specs.Policy.{Unsatisfiable, Trivial, Key, Lock, Hash, And, Or, Thresh}
 use Rattle.policies.specs.Forms.{made, nth, kindOf, numberOf, kOf, leftWeightOf, rightWeightOf, childrenOf}
 use Rattle.policies.specs.Heads.{headOf, leafHead, pairHead}

@@ -5,7 +5,7 @@ use Prim.Native.Nat.{ℕ}
 use lib.Dec.{eqb}
 use lib.ListN.{getD}
 use Rattle.policies.specs.Policy.{Policy}
-use Rattle.terms.specs.Leaves.{LockKind, HashKind, After, Older, Sha256, Hash256, Ripemd160, Hash160}
+use Rattle.contexts.specs.Leaves.{LockKind, HashKind, After, Older, Sha256, Hash256, Ripemd160, Hash160}
 use Rattle.policies.specs.Policy.{Unsatisfiable, Trivial, Key, Lock, Hash, And, Or, Thresh, toList, fromList}
 
 -- the numbers of the kinds with children

@@ -1,7 +1,7 @@
 -- Policies, written from document 01, "Records": each of its twelve policy kinds is here under its own name; their depth, and the weighted
 -- size and the fold to Ands of its section "Forms that must change", in the words of policy/compiler.rs, `best_compilations`.
 -- Assumes nothing: these are definitions.
-use Rattle.terms.specs.Leaves.{LockKind, HashKind}
+use Rattle.contexts.specs.Leaves.{LockKind, HashKind}
 use mathlib.Core.List.{List, [], _∷_}
 use Prim.Native.Nat.{ℕ, suc, _+_, max}
 

@@ -10,22 +10,22 @@ use lib.Dec.{leb, ltb, eqb}
 use lib.IntN.{pos}
 use lib.ListN.{length}
 use Rattle.records.specs.Numbers.{maxLock}
-use Rattle.terms.specs.declared.Context.{Context}
-use Rattle.terms.specs.declared.Context.the-variants.{Segwitv0, Tap}
-use Rattle.terms.specs.Leaves.{LockKind, After, Older, HashKind, Sha256, Hash256, Ripemd160, Hash160}
+use Rattle.contexts.specs.declared.Context.{Context}
+use Rattle.contexts.specs.declared.Context.the-variants.{Segwitv0, Tap}
+use Rattle.contexts.specs.Leaves.{LockKind, After, Older, HashKind, Sha256, Hash256, Ripemd160, Hash160}
 use Rattle.trees.specs.Fragment.{Fragment, Fragments, end, _▹_, False, True, PkK, PkH, Lock, Hash}
 use Rattle.trees.specs.Fragment.{Alt, Swap, Check, DupIf, Verify, NonZero, ZeroNotEqual}
 use Rattle.trees.specs.Fragment.{AndB, AndV, OrB, OrD, OrC, OrI, AndOr, Thresh, Multi, MultiA}
 use Rattle.writing.specs.WellFormed.{WellFormed, AllWellFormed}
-use Rattle.script.specs.Numbers.{Bytes, write}
-use Rattle.script.specs.Words.{Word, <n>, <key>, <keyhash>, <h>, DUP, IFDUP, SWAP, SIZE, TOALTSTACK, FROMALTSTACK, VERIFY, HASH}
-use Rattle.script.specs.Words.{CHECKLOCKTIMEVERIFY, CHECKSEQUENCEVERIFY, 0NOTEQUAL, BOOLAND, BOOLOR, ADD, IF, NOTIF, ELSE, ENDIF}
-use Rattle.script.specs.Words.{EQUAL, NUMEQUAL, CHECKSIG, CHECKMULTISIG, CHECKSIGADD}
-use Rattle.script.specs.Words.{EQUALVERIFY, NUMEQUALVERIFY, CHECKSIGVERIFY, CHECKMULTISIGVERIFY}
-use Rattle.script.specs.Translation.{⟦_⟧, sum, adds, sigAdds, sigSum, script}
-use Rattle.script.specs.Merged.{equal, numEqual, checkSig, checkMultiSig, Form, other, isPlain, isCombined, form, parts, split}
-use Rattle.script.specs.Merged.{verified, mergeVerify, merged}
-use Rattle.script.proofs.Merged.{split-alike}
+use Rattle.script_machine.specs.Numbers.{Bytes, write}
+use Rattle.script_machine.specs.Words.{Word, <n>, <key>, <keyhash>, <h>, DUP, IFDUP, SWAP, SIZE, TOALTSTACK, FROMALTSTACK, VERIFY, HASH}
+use Rattle.script_machine.specs.Words.{CHECKLOCKTIMEVERIFY, CHECKSEQUENCEVERIFY, 0NOTEQUAL, BOOLAND, BOOLOR, ADD, IF, NOTIF, ELSE, ENDIF}
+use Rattle.script_machine.specs.Words.{EQUAL, NUMEQUAL, CHECKSIG, CHECKMULTISIG, CHECKSIGADD}
+use Rattle.script_machine.specs.Words.{EQUALVERIFY, NUMEQUALVERIFY, CHECKSIGVERIFY, CHECKMULTISIGVERIFY}
+use Rattle.script_machine.specs.Translation.{⟦_⟧, sum, adds, sigAdds, sigSum, script}
+use Rattle.script_machine.specs.Merged.{equal, numEqual, checkSig, checkMultiSig, Form, other, isPlain, isCombined, form, parts, split}
+use Rattle.script_machine.specs.Merged.{verified, mergeVerify, merged}
+use Rattle.script_machine.proofs.Merged.{split-alike}
 use Rattle.script_bytes.specs.Tables.{Tables, keySize, hashSize, hashTable, hasKey, hasKeyHash, hasHash}
 use Rattle.script_bytes.specs.Opcodes.{Token, push, op, token, tokens}
 use Rattle.script_bytes.specs.Encoding.{pushByte, pushBytes, tokenBytes, encode, scriptBytes}

@@ -9,7 +9,7 @@ use lib.Dec.{ltb}
 use Rattle.records.specs.Numbers.{u32s}
 use Rattle.records.specs.declared.Parts.{Parts}
 use Rattle.records.proofs.Forms.{and-left, and-right}
-use Rattle.terms.specs.declared.Context.{Context}
+use Rattle.contexts.specs.declared.Context.{Context}
 use Rattle.trees.specs.Fragment.{Fragment}
 use Rattle.script_bytes.specs.Tables.{Tables, whole, hasKey, hasKeyHash}
 use Rattle.script_bytes.specs.ScriptOf.{hasKeys, hasEntries}

@@ -8,7 +8,7 @@ use borrow.Author.Tests.{eqb-true}
 use lib.Dec.{leb, eqb}
 use lib.ListN.{length}
 use Rattle.types.specs.declared.TypeResult.the-variants.{Ok}
-use Rattle.terms.specs.declared.Context.{Context}
+use Rattle.contexts.specs.declared.Context.{Context}
 use Rattle.trees.specs.Fragment.{Fragment}
 use Rattle.trees.specs.Typing.{typeOf}
 use Rattle.trees.specs.Reading.{refused, done, maxRecords}
@@ -17,7 +17,7 @@ use Rattle.trees.specs.TreeCheck.{Typed, contextOf, checkOf}
 use Rattle.trees.proofs.Theorem.{passes-well-typed-trees}
 use Rattle.writing.specs.WellFormed.{WellFormed}
 use Rattle.writing.proofs.WellRead.{reads-well-formed}
-use Rattle.script.specs.Numbers.{Bytes}
+use Rattle.script_machine.specs.Numbers.{Bytes}
 use Rattle.script_bytes.specs.Tables.{Tables}
 use Rattle.script_bytes.specs.Encoding.{scriptBytes}
 use Rattle.script_bytes.specs.ScriptOf.{hasEntries, scriptIn, scriptOf}

@@ -9,9 +9,9 @@ use borrow.Author.Tests.{le-ltb, lt-ltb, le-leb, lt-leb}
 use lib.ListN.{length, length-append}
 use Rattle.words.specs.Bytes as words
 use Rattle.records.specs.Numbers.{maxLock}
-use Rattle.terms.specs.declared.Context.{Context}
-use Rattle.terms.specs.declared.Context.the-variants.{Segwitv0, Tap}
-use Rattle.terms.specs.Leaves.{LockKind, After, Older, HashKind, Sha256, Hash256, Ripemd160, Hash160}
+use Rattle.contexts.specs.declared.Context.{Context}
+use Rattle.contexts.specs.declared.Context.the-variants.{Segwitv0, Tap}
+use Rattle.contexts.specs.Leaves.{LockKind, After, Older, HashKind, Sha256, Hash256, Ripemd160, Hash160}
 use Rattle.types.specs.declared.«Type».{«Type»}
 use Rattle.types.specs.declared.TypeResult.{TypeResult}
 use Rattle.types.specs.declared.TypeResult.the-variants.{Ok, IllTyped}
@@ -26,10 +26,10 @@ use Rattle.trees.specs.Fragment.{Alt, Swap, Check, DupIf, Verify, NonZero, Zero
 use Rattle.trees.specs.Fragment.{AndB, AndV, OrB, OrD, OrC, OrI, AndOr, Thresh, Multi, MultiA}
 use Rattle.trees.specs.Typing.{typeOf, typesOf, _>>=_, allTyped, andAll, inSegwitv0, inTap}
 use Rattle.writing.specs.WellFormed.{IsThreshold, WellFormed, AllWellFormed}
-use Rattle.compilation.specs.Candidates.{hashExt}
-use Rattle.laws.specs.Laws.{figuresOf, figuresOfAll}
-use Rattle.script.specs.Numbers.{write, signed, digits}
-use Rattle.script.specs.Translation.{⟦_⟧}
+use Rattle.definition.specs.Candidates.{hashExt}
+use Rattle.definition_laws.specs.Laws.{figuresOf, figuresOfAll}
+use Rattle.script_machine.specs.Numbers.{write, signed, digits}
+use Rattle.script_machine.specs.Translation.{⟦_⟧}
 use Rattle.script_bytes.specs.Tables.{Tables, keySize, hashSize, hashTable, key, hasKey, hasKeyHash, hasHash}
 use Rattle.script_bytes.specs.Encoding.{pushBytes, encode, scriptBytes}
 use Rattle.script_bytes.specs.ScriptOf.{hasKeys, hasEntries, allHaveEntries}

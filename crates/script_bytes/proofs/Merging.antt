@@ -4,18 +4,18 @@ use mathlib.Core.Bool.{Bool, true, false}
 use mathlib.Core.List.{List, [], _∷_, _++_, append-assoc, append-nil, map}
 use mathlib.Core.Path.{_≡_, refl, sym, _∙_, ap}
 use lib.ListN.{length}
-use Rattle.terms.specs.declared.Context.{Context}
-use Rattle.terms.specs.Leaves.{LockKind, After, Older, HashKind, Sha256, Hash256, Ripemd160, Hash160}
+use Rattle.contexts.specs.declared.Context.{Context}
+use Rattle.contexts.specs.Leaves.{LockKind, After, Older, HashKind, Sha256, Hash256, Ripemd160, Hash160}
 use Rattle.trees.specs.Fragment.{Fragment, Fragments, end, _▹_, False, True, PkK, PkH, Lock, Hash}
 use Rattle.trees.specs.Fragment.{Alt, Swap, Check, DupIf, Verify, NonZero, ZeroNotEqual}
 use Rattle.trees.specs.Fragment.{AndB, AndV, OrB, OrD, OrC, OrI, AndOr, Thresh, Multi, MultiA}
-use Rattle.script.specs.Numbers.{Bytes, write, signed, digits}
-use Rattle.script.specs.Words.{Word, <n>, <key>, DUP, IFDUP, SWAP, SIZE, TOALTSTACK, FROMALTSTACK, VERIFY, HASH}
-use Rattle.script.specs.Words.{0NOTEQUAL, BOOLAND, BOOLOR, ADD, IF, NOTIF, ELSE, ENDIF}
-use Rattle.script.specs.Words.{EQUAL, NUMEQUAL, CHECKSIG}
-use Rattle.script.specs.Translation.{⟦_⟧, sum, adds, sigAdds, sigSum}
-use Rattle.script.specs.Merged.{Test, equal, numEqual, checkSig, checkMultiSig, plain, combined, Form, other, isPlain, isCombined, form}
-use Rattle.script.specs.Merged.{verified, mergeVerify, merged}
+use Rattle.script_machine.specs.Numbers.{Bytes, write, signed, digits}
+use Rattle.script_machine.specs.Words.{Word, <n>, <key>, DUP, IFDUP, SWAP, SIZE, TOALTSTACK, FROMALTSTACK, VERIFY, HASH}
+use Rattle.script_machine.specs.Words.{0NOTEQUAL, BOOLAND, BOOLOR, ADD, IF, NOTIF, ELSE, ENDIF}
+use Rattle.script_machine.specs.Words.{EQUAL, NUMEQUAL, CHECKSIG}
+use Rattle.script_machine.specs.Translation.{⟦_⟧, sum, adds, sigAdds, sigSum}
+use Rattle.script_machine.specs.Merged.{Test, equal, numEqual, checkSig, checkMultiSig, plain, combined, Form, other, isPlain, isCombined, form}
+use Rattle.script_machine.specs.Merged.{verified, mergeVerify, merged}
 use Rattle.script_bytes.specs.Tables.{Tables, key, keyHash, hash}
 use Rattle.script_bytes.specs.Opcodes.{op, token}
 use Rattle.script_bytes.specs.Encoding.{pushBytes, encode, scriptBytes}

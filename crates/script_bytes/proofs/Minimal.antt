@@ -8,7 +8,7 @@ use mathlib.Core.Path.{_≡_, refl, sym, _∙_, ap}
 use borrow.Author.Tests.{eqb-false, leb-true, le-leb}
 use lib.Dec.{leb, eqb}
 use lib.ListN.{length, length-append}
-use Rattle.script.specs.Numbers.{Bytes}
+use Rattle.script_machine.specs.Numbers.{Bytes}
 use Rattle.script_bytes.specs.Opcodes.{Token, push, op}
 use Rattle.script_bytes.specs.Encoding.{pushByte, pushBytes}
 use Rattle.script_bytes.specs.Decoding.{between, inside, lost, withToken, decodeFrom, MinimalPushes}

@@ -9,10 +9,10 @@ use lib.Dec.{leb, ltb, eqb}
 use lib.IntN.{pos}
 use lib.ListN.{length, drop, length-take, length-drop}
 use Rattle.words.specs.Bytes.{bytesOf}
-use Rattle.terms.specs.declared.Context.{Context}
-use Rattle.terms.specs.declared.Context.the-variants.{Segwitv0, Tap}
-use Rattle.terms.specs.Leaves.{HashKind, Sha256, Hash256, Ripemd160, Hash160}
-use Rattle.script.specs.Numbers.{Bytes, write, signed, digits}
+use Rattle.contexts.specs.declared.Context.{Context}
+use Rattle.contexts.specs.declared.Context.the-variants.{Segwitv0, Tap}
+use Rattle.contexts.specs.Leaves.{HashKind, Sha256, Hash256, Ripemd160, Hash160}
+use Rattle.script_machine.specs.Numbers.{Bytes, write, signed, digits}
 use Rattle.script_bytes.specs.Tables.{Tables, entry, whole, keySize, keyHashSize, hashSize, hashTable}
 use Rattle.script_bytes.specs.Tables.{key, keyHash, hash, hasKey, hasKeyHash, hasHash}
 use Rattle.script_bytes.specs.Encoding.{pushBytes}

@@ -22,7 +22,7 @@ use Rattle.records.proofs.Laws.{of-fragment, fragment-record, is-nothing, is-nu
 use Rattle.records.proofs.Laws.{is-three-children, is-threshold, is-keys, padded-at}
 use Rattle.records.proofs.Laws as Laws
 use Rattle.records.proofs.Numbers.{length-u32s}
-use Rattle.terms.specs.Leaves.{After, Older, Sha256, Hash256, Ripemd160, Hash160}
+use Rattle.contexts.specs.Leaves.{After, Older, Sha256, Hash256, Ripemd160, Hash160}
 use Rattle.trees.specs.Fragment.{Fragment, end, _▹_, False, True, PkK, PkH, Lock, Hash}
 use Rattle.trees.specs.Fragment.{Alt, Swap, Check, DupIf, Verify, NonZero, ZeroNotEqual}
 use Rattle.trees.specs.Fragment.{AndB, AndV, OrB, OrD, OrC, OrI, AndOr, Thresh, Multi, MultiA}

@@ -8,9 +8,9 @@ use Rattle.trees.specs.Typing.{typeOf}
 use Rattle.trees.specs.Reading.{takeAll, rootOf, addRecord, readFrom, readTree}
 use Rattle.trees.specs.Tree.{find}
 use Rattle.trees.specs.TreeCheck.{typedTreeOf, checkOf}
-use Rattle.script.specs.Numbers.{same, write, signed, digits}
-use Rattle.script.specs.Translation.{⟦_⟧, sum, adds}
-use Rattle.script.specs.Merged.{form, mergeVerify}
+use Rattle.script_machine.specs.Numbers.{same, write, signed, digits}
+use Rattle.script_machine.specs.Translation.{⟦_⟧, sum, adds}
+use Rattle.script_machine.specs.Merged.{form, mergeVerify}
 use Rattle.script_bytes.specs.Encoding.{pushBytes, encode, scriptBytes}
 use Rattle.script_bytes.specs.ScriptOf.{hasEntries, scriptOf}
 use Rattle.script_bytes.specs.WorkedScripts.{allHold, WorkedScripts, WorkedAnswers}

@@ -6,11 +6,11 @@ use mathlib.Core.Option.{Option, none, some}
 use mathlib.Core.Path.{_≡_}
 use lib.Dec.{leb, eqb}
 use lib.ListN.{length}
-use Rattle.terms.specs.declared.Context.{Context}
+use Rattle.contexts.specs.declared.Context.{Context}
 use Rattle.trees.specs.TreeCheck.{Typed}
-use Rattle.script.specs.Numbers.{Bytes}
-use Rattle.script.specs.Words.{Word}
-use Rattle.script.specs.Translation.{script}
+use Rattle.script_machine.specs.Numbers.{Bytes}
+use Rattle.script_machine.specs.Words.{Word}
+use Rattle.script_machine.specs.Translation.{script}
 use Rattle.script_bytes.specs.Tables.{Tables}
 use Rattle.script_bytes.specs.Opcodes.{Token, push, op, token, tokens}
 use Rattle.script_bytes.specs.Encoding.{pushBytes}

@@ -5,11 +5,11 @@ use mathlib.Core.Bool.{_&&_, cond}
 use mathlib.Core.List.{List, [], _∷_, _++_}
 use lib.Dec.{leb, eqb}
 use lib.ListN.{length}
-use Rattle.terms.specs.declared.Context.{Context}
+use Rattle.contexts.specs.declared.Context.{Context}
 use Rattle.trees.specs.Fragment.{Fragment}
-use Rattle.script.specs.Numbers.{Bytes}
-use Rattle.script.specs.Words.{Word}
-use Rattle.script.specs.Merged.{merged}
+use Rattle.script_machine.specs.Numbers.{Bytes}
+use Rattle.script_machine.specs.Words.{Word}
+use Rattle.script_machine.specs.Merged.{merged}
 use Rattle.script_bytes.specs.Tables.{Tables}
 use Rattle.script_bytes.specs.Opcodes.{Token, push, op, token}
 

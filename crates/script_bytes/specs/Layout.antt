@@ -3,13 +3,13 @@ use Prim.Native.Nat.{ℕ, suc}
 use mathlib.Core.Bool.{Bool, true, false}
 use mathlib.Core.List.{List, [], _∷_, _++_}
 use lib.IntN.{pos}
-use Rattle.terms.specs.declared.Context.{Context}
-use Rattle.terms.specs.Leaves.{LockKind, After, Older, HashKind, Sha256, Hash256, Ripemd160, Hash160}
+use Rattle.contexts.specs.declared.Context.{Context}
+use Rattle.contexts.specs.Leaves.{LockKind, After, Older, HashKind, Sha256, Hash256, Ripemd160, Hash160}
 use Rattle.trees.specs.Fragment.{Fragment, Fragments}
-use Rattle.script.specs.Numbers.{Bytes, write}
-use Rattle.script.specs.Words.{Word}
-use Rattle.script.specs.Translation.{sum, adds}
-use Rattle.script.specs.Merged.{merged, mergeVerify}
+use Rattle.script_machine.specs.Numbers.{Bytes, write}
+use Rattle.script_machine.specs.Words.{Word}
+use Rattle.script_machine.specs.Translation.{sum, adds}
+use Rattle.script_machine.specs.Merged.{merged, mergeVerify}
 use Rattle.script_bytes.specs.Tables.{Tables, key}
 use Rattle.script_bytes.specs.Encoding.{pushBytes, encode}
 

@@ -4,14 +4,14 @@ use mathlib.Core.Bool.{true}
 use mathlib.Core.List.{[], _∷_}
 use mathlib.Core.Path.{_≡_}
 use lib.ListN.{length, replicate}
-use Rattle.terms.specs.declared.Context.{Context}
-use Rattle.terms.specs.declared.Context.the-variants.{Segwitv0, Tap}
-use Rattle.terms.specs.Leaves.{After}
+use Rattle.contexts.specs.declared.Context.{Context}
+use Rattle.contexts.specs.declared.Context.the-variants.{Segwitv0, Tap}
+use Rattle.contexts.specs.Leaves.{After}
 use Rattle.trees.specs.Fragment.{Fragment, Lock, Multi, MultiA}
 use Rattle.trees.specs.TreeCheck.{Typed}
-use Rattle.compilation.specs.Candidates.{Candidate}
-use Rattle.laws.specs.Laws.{figuresOf, Good}
-use Rattle.script.specs.Numbers.{Bytes}
+use Rattle.definition.specs.Candidates.{Candidate}
+use Rattle.definition_laws.specs.Laws.{figuresOf, Good}
+use Rattle.script_machine.specs.Numbers.{Bytes}
 use Rattle.script_bytes.specs.Tables.{Tables, tables}
 use Rattle.script_bytes.specs.Encoding.{scriptBytes}
 use Rattle.script_bytes.specs.ScriptOf.{hasEntries}

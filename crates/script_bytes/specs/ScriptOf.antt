@@ -7,13 +7,13 @@ use mathlib.Core.Path.{_≡_}
 use lib.Dec.{leb}
 use lib.ListN.{length, drop}
 use Rattle.words.specs.Memory.{zeroed}
-use Rattle.terms.specs.declared.Context.{Context}
+use Rattle.contexts.specs.declared.Context.{Context}
 use Rattle.trees.specs.Fragment.{Fragment, Fragments, end, _▹_, False, True, PkK, PkH, Lock, Hash}
 use Rattle.trees.specs.Fragment.{Alt, Swap, Check, DupIf, Verify, NonZero, ZeroNotEqual}
 use Rattle.trees.specs.Fragment.{AndB, AndV, OrB, OrD, OrC, OrI, AndOr, Thresh, Multi, MultiA}
 use Rattle.trees.specs.Reading.{Answer, refused, done, _>>=_, orRefuse}
 use Rattle.trees.specs.TreeCheck.{badContext, contextOf, checkOf}
-use Rattle.script.specs.Numbers.{Bytes}
+use Rattle.script_machine.specs.Numbers.{Bytes}
 use Rattle.script_bytes.specs.Tables.{Tables, hasKey, hasKeyHash, hasHash}
 use Rattle.script_bytes.specs.Encoding.{scriptBytes}
 

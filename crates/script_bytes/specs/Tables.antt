@@ -4,10 +4,10 @@ use Prim.Native.Nat.{ℕ, suc, _*_}
 use mathlib.Core.Bool.{Bool}
 use lib.Dec.{leb}
 use lib.ListN.{length, take, drop}
-use Rattle.terms.specs.declared.Context.{Context}
-use Rattle.terms.specs.declared.Context.the-variants.{Segwitv0, Tap}
-use Rattle.terms.specs.Leaves.{HashKind, Sha256, Hash256, Ripemd160, Hash160}
-use Rattle.script.specs.Numbers.{Bytes}
+use Rattle.contexts.specs.declared.Context.{Context}
+use Rattle.contexts.specs.declared.Context.the-variants.{Segwitv0, Tap}
+use Rattle.contexts.specs.Leaves.{HashKind, Sha256, Hash256, Ripemd160, Hash160}
+use Rattle.script_machine.specs.Numbers.{Bytes}
 
 pub record Tables : Type 0 where
   pub keys : Bytes

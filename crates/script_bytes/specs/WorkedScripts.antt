@@ -4,12 +4,12 @@ use mathlib.Core.Bool.{Bool, true, _&&_}
 use mathlib.Core.List.{List, [], _∷_, _++_}
 use mathlib.Core.Path.{_≡_}
 use lib.ListN.{replicate}
-use Rattle.terms.specs.declared.Context.the-variants.{Segwitv0, Tap}
-use Rattle.terms.specs.Leaves.{Older, Sha256, Hash160}
-use Rattle.trees.specs.Fragment.{Fragment, end, _▹_, True, PkK, PkH, Lock, Hash}
-use Rattle.trees.specs.Fragment.{Alt, Swap, Check, DupIf, Verify, NonZero, AndV, OrD, OrI, AndOr, Thresh, Multi, MultiA}
+use Rattle.contexts.specs.declared.Context.the-variants.{Segwitv0, Tap}
+use Rattle.contexts.specs.Leaves.{After, Older, Sha256, Hash256, Ripemd160, Hash160}
+use Rattle.trees.specs.Fragment.{Fragment, end, _▹_, False, True, PkK, PkH, Lock, Hash}
+use Rattle.trees.specs.Fragment.{Alt, Swap, Check, DupIf, Verify, NonZero, AndB, AndV, OrB, OrD, OrI, AndOr, Thresh, Multi, MultiA}
 use Rattle.trees.specs.Reading.{refused, done}
-use Rattle.script.specs.Numbers.{Bytes, same}
+use Rattle.script_machine.specs.Numbers.{Bytes, same}
 use Rattle.script_bytes.specs.Tables.{Tables, tables}
 use Rattle.script_bytes.specs.Encoding.{scriptBytes}
 use Rattle.script_bytes.specs.ScriptOf.{scriptOf}
@@ -63,6 +63,18 @@ cases =
     -- v:multi(1,G,other) and v:multi_a(1,G,other)
     ∷ in-0 (Verify (Multi 1 (0 ∷ 1 ∷ []))) (0x51 ∷ 0x21 ∷ G ++ 0x21 ∷ 0x03 ∷ other ++ 0x52 ∷ 0xaf ∷ [])
     ∷ in-1 (Verify (MultiA 1 (0 ∷ 1 ∷ []))) (0x20 ∷ x-of-G ++ 0xac ∷ 0x20 ∷ other ++ 0xba ∷ 0x51 ∷ 0x9d ∷ [])
+    -- the same without v: CHECKMULTISIG, NUMEQUAL
+    ∷ in-0 (Multi 1 (0 ∷ 1 ∷ [])) (0x51 ∷ 0x21 ∷ G ++ 0x21 ∷ 0x03 ∷ other ++ 0x52 ∷ 0xae ∷ [])
+    ∷ in-1 (MultiA 1 (0 ∷ 1 ∷ [])) (0x20 ∷ x-of-G ++ 0xac ∷ 0x20 ∷ other ++ 0xba ∷ 0x51 ∷ 0x9c ∷ [])
+    -- ripemd160(0) and hash256(0)
+    ∷ in-0 (Hash Ripemd160 0) (0x82 ∷ 0x01 ∷ 0x20 ∷ 0x88 ∷ 0xa6 ∷ 0x14 ∷ replicate 20 3 ++ 0x87 ∷ [])
+    ∷ in-1 (Hash Hash256 0) (0x82 ∷ 0x01 ∷ 0x20 ∷ 0x88 ∷ 0xaa ∷ 0x20 ∷ replicate 32 2 ++ 0x87 ∷ [])
+    -- after(100): CLTV; l:after(100): False is OP_0
+    ∷ in-0 (Lock After 100) (0x01 ∷ 0x64 ∷ 0xb1 ∷ [])
+    ∷ in-0 (OrI False (Lock After 100)) (0x63 ∷ 0x00 ∷ 0x67 ∷ 0x01 ∷ 0x64 ∷ 0xb1 ∷ 0x68 ∷ [])
+    -- and_b(pk(G),s:pk(other)) and or_b(pk(G),s:pk(other)): BOOLAND, BOOLOR
+    ∷ in-1 (AndB (Check (PkK 0)) (Swap (Check (PkK 1)))) (0x20 ∷ x-of-G ++ 0xac ∷ 0x7c ∷ 0x20 ∷ other ++ 0xac ∷ 0x9a ∷ [])
+    ∷ in-1 (OrB (Check (PkK 0)) (Swap (Check (PkK 1)))) (0x20 ∷ x-of-G ++ 0xac ∷ 0x7c ∷ 0x20 ∷ other ++ 0xac ∷ 0x9b ∷ [])
     -- v:thresh(2,pk(G),s:pk(other),a:pk(G)) in Tapscript
     ∷ in-1 (Verify (Thresh 2 (Check (PkK 0) ▹ Swap (Check (PkK 1)) ▹ Alt (Check (PkK 0)) ▹ end)))
     (0x20 ∷ x-of-G ++ 0xac ∷ 0x7c ∷ 0x20 ∷ other ++ 0xac ∷ 0x93 ∷ 0x6b ∷ 0x20 ∷ x-of-G ++ 0xac ∷ 0x6c ∷ 0x93 ∷ 0x52 ∷ 0x88 ∷ [])

@@ -4,11 +4,11 @@ use mathlib.Core.List.{List}
 use mathlib.Core.Option.{some}
 use mathlib.Core.Path.{_≡_}
 use lib.ListN.{length}
-use Rattle.terms.specs.declared.Context.{Context}
+use Rattle.contexts.specs.declared.Context.{Context}
 use Rattle.trees.specs.Reading.{done}
 use Rattle.trees.specs.TreeCheck.{Typed, contextOf, checkOf}
 use Rattle.writing.specs.WellFormed.{AllBelow}
-use Rattle.script.specs.Numbers.{Bytes}
+use Rattle.script_machine.specs.Numbers.{Bytes}
 use Rattle.script_bytes.specs.Tables.{Tables}
 use Rattle.script_bytes.specs.ScriptOf.{scriptOf}
 

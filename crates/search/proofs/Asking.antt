@@ -14,9 +14,9 @@ use Rattle.policies.specs.Forms.{kindOf, kOf, childrenOf, nth}
 use Rattle.policies.specs.Array.{policyAt, andPolicy, countAt, Good, Named, stored, folds, childNumber, foldNumber}
 use Rattle.policies.proofs.Forms.{is-thresh, to-from}
 use Rattle.policies.proofs.Views.{and-is, child-is, child-falls, fold-is, fold-falls}
-use Rattle.laws.specs.FormedPolicy.{FormedPolicy, AllFormed}
-use Rattle.recall.specs.State.{flagOf, load, Ready, Paid}
-use Rattle.recall.proofs.Chains.{room-kept, room-below}
+use Rattle.definition_laws.specs.FormedPolicy.{FormedPolicy, AllFormed}
+use Rattle.search_state.specs.State.{flagOf, load, Ready, Paid}
+use Rattle.search_state.proofs.Chains.{room-kept, room-below}
 use Rattle.stages.specs.declared.Ask.{Ask}
 use Rattle.stages.specs.declared.Pairing.{Pairing}
 use Rattle.stages.specs.Stages.{ask, andAsks, andPairings, andOrAsks, andOrPairings, orAsks, orPairings, False}

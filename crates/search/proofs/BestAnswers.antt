@@ -5,7 +5,7 @@ use mathlib.Core.List.{List}
 use Prim.Native.Nat.{ℕ, _+_, _<_, _≤_}
 use native.Mathlib.Omega.{arith}
 use lib.ListN.{length, set, length-set}
-use Rattle.terms.specs.declared.Context.{Context}
+use Rattle.contexts.specs.declared.Context.{Context}
 use Rattle.costs.specs.declared.DissatProb.{DissatProb}
 use Rattle.costs.specs.declared.DissatProb.the-variants as Prob
 use Rattle.costs.specs.Arithmetic.{1·}
@@ -13,11 +13,11 @@ use Rattle.policies.specs.Policy.{Policy}
 use Rattle.policies.specs.Forms.{kindOf, childrenOf, nth}
 use Rattle.policies.specs.Array.{policyAt, childNumber}
 use Rattle.policies.proofs.Views.{child-is}
-use Rattle.compilation.specs.Tables.{Probs}
+use Rattle.definition.specs.Tables.{Probs}
 use Rattle.closure.specs.declared.End.{End}
 use Rattle.closure.specs.declared.End.the-variants as End
-use Rattle.recall.specs.State.{flagOf, load}
-use Rattle.recall.proofs.Chains.{paid-after}
+use Rattle.search_state.specs.State.{flagOf, load}
+use Rattle.search_state.proofs.Chains.{paid-after}
 use Rattle.choice.specs.declared.Want.the-variants as Want
 use Rattle.search.specs.declared.Best as best
 use Rattle.search.specs.declared.Best.the-variants as Best′

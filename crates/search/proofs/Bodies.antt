@@ -5,7 +5,7 @@ use Prim.Native.Nat.{ℕ}
 use native.Mathlib.Omega.{arith}
 use lib.Ieee.{Float}
 use lib.ListN.{take}
-use Rattle.terms.specs.declared.Context.{Context}
+use Rattle.contexts.specs.declared.Context.{Context}
 use Rattle.costs.specs.declared.DissatProb.{DissatProb}
 use Rattle.costs.specs.Weights.{weights}
 use Rattle.policies.specs.Policy.{Policy, Key, And, Or}
@@ -16,30 +16,30 @@ use Rattle.policies.proofs.Views.{and-of, or-of}
 use Rattle.candidates.specs.declared.Candidate as node
 use Rattle.candidates.specs.Leaves as leaf
 use Rattle.writing.specs.WellFormed.{AllBelow}
-use Rattle.compilation.specs.Candidates as definition
-use Rattle.compilation.specs.Candidates.{Candidate}
-use Rattle.compilation.specs.Tables.{Probs, probs, Table}
-use Rattle.compilation.specs.Refusals.{M, State, Res, done, then}
-use Rattle.compilation.specs.Search.{Again, Body, search, searcher, wrapped, forEach, leaves, orBody, andOrs, remembering}
-use Rattle.laws.specs.FormedPolicy.{FormedPolicy}
-use Rattle.laws.specs.Bodies.{againIn, bodyOf, bodyIn}
-use Rattle.laws.proofs.Bodies.{search-is}
-use Rattle.laws.proofs.Steps.{then-done, then-then, forEach-none, forEach-next}
+use Rattle.definition.specs.Candidates as definition
+use Rattle.definition.specs.Candidates.{Candidate}
+use Rattle.definition.specs.Tables.{Probs, probs, Table}
+use Rattle.definition.specs.Refusals.{M, State, Res, done, then}
+use Rattle.definition.specs.Search.{Again, Body, search, searcher, wrapped, forEach, leaves, orBody, andOrs, remembering}
+use Rattle.definition_laws.specs.FormedPolicy.{FormedPolicy}
+use Rattle.definition_laws.specs.Bodies.{againIn, bodyOf, bodyIn}
+use Rattle.definition_laws.proofs.Bodies.{search-is}
+use Rattle.definition_laws.proofs.Steps.{then-done, then-then, forEach-none, forEach-next}
 use Rattle.memory.specs.Layout.{nodeCount}
 use Rattle.nodes.specs.Views.{seenAll, offered}
 use Rattle.nodes.proofs.Leaves.{pk-h-seen, pk-k-seen}
-use Rattle.remembered.specs.declared.Found.{Found}
-use Rattle.remembered.specs.declared.Found.the-variants.{At, Missing}
+use Rattle.cache.specs.declared.Found.{Found}
+use Rattle.cache.specs.declared.Found.the-variants.{At, Missing}
 use Rattle.table.specs.Rows.{TableHolds}
 use Rattle.table.specs.Inserted.{seenTable}
 use Rattle.closure.specs.declared.End.{End}
 use Rattle.closure.specs.declared.Closed.{Closed}
 use Rattle.closure.specs.Closed.{answer}
-use Rattle.recall.specs.declared.Out.{Out}
-use Rattle.recall.specs.declared.Out.the-variants.{Slot}
-use Rattle.recall.specs.State.{stateIn, Ready}
-use Rattle.recall.specs.Recalled.{tableAnswer, Searched, Tabled, Recalled, Remembered}
-use Rattle.recall.proofs.Chains.{tabled-then, recalled-found, recalled-new, remembered-searched}
+use Rattle.search_state.specs.declared.Out.{Out}
+use Rattle.search_state.specs.declared.Out.the-variants.{Slot}
+use Rattle.search_state.specs.State.{stateIn, Ready}
+use Rattle.search_state.specs.Recalled.{tableAnswer, Searched, Tabled, Recalled, Remembered}
+use Rattle.search_state.proofs.Chains.{tabled-then, recalled-found, recalled-new, remembered-searched}
 use Rattle.stages.specs.declared.Ask.{Ask}
 use Rattle.stages.specs.declared.Pairing.{Pairing}
 use Rattle.stages.specs.Stages.{staged, andAsks, andPairings, andOrAsks, andOrPairings, orAsks, orPairings}

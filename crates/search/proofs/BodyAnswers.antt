@@ -5,7 +5,7 @@ use Prim.Native.Nat.{ℕ, _<_, _≤_}
 use native.Mathlib.Omega.{arith}
 use lib.Ieee.{Float}
 use lib.ListN.{length, take}
-use Rattle.terms.specs.Leaves.{After, Older, Sha256, Hash256, Ripemd160, Hash160}
+use Rattle.contexts.specs.Leaves.{After, Older, Sha256, Hash256, Ripemd160, Hash160}
 use Rattle.costs.specs.declared.DissatProb.{DissatProb}
 use Rattle.policies.proofs.Forms.{is-or}
 use Rattle.policies.specs.Policy.{Policy, Unsatisfiable, Trivial, Key, Lock, Hash, And, Or, Thresh}
@@ -14,7 +14,7 @@ use Rattle.policies.specs.Heads.{headOf}
 use Rattle.policies.specs.declared.Head.{Head}
 use Rattle.policies.specs.Array.{policyAt, countAt, Good, Named, stored, folds, childNumber}
 use Rattle.writing.specs.WellFormed.{IsU32}
-use Rattle.laws.specs.FormedPolicy.{FormedPolicy}
+use Rattle.definition_laws.specs.FormedPolicy.{FormedPolicy}
 use Rattle.candidates.specs.declared.Candidate.{Candidate}
 use Rattle.nodes.specs.Offers.{Offerable}
 use Rattle.offers.specs.Offering.{IsLeaf}
@@ -23,11 +23,11 @@ use Rattle.stages.specs.declared.Pairing.{Pairing}
 use Rattle.stages.specs.Stages.{andAsks, andPairings, andOrAsks, andOrPairings, orAsks, orPairings}
 use Rattle.costs.specs.declared.OrWeights.{OrWeights}
 use Rattle.costs.specs.Weights.{weights}
-use Rattle.compilation.specs.Tables.{Table}
-use Rattle.compilation.specs.Refusals.{Res}
+use Rattle.definition.specs.Tables.{Table}
+use Rattle.definition.specs.Refusals.{Res}
 use Rattle.closure.specs.declared.Closed.{Closed}
-use Rattle.recall.specs.Recalled.{Tabled}
-use Rattle.recall.proofs.Chains.{tabled-more}
+use Rattle.search_state.specs.Recalled.{Tabled}
+use Rattle.search_state.proofs.Chains.{tabled-more}
 use Rattle.search.proofs.Bodies.{all-or-asks, all-or-pairings}
 use Rattle.search.specs.Searching.{IsOr, IsThresh, AllLighter, AllPlaced, Under}
 use Rattle.search.proofs.Asking.{under-child, under-under, and-lighter-of, or-lighter-of, and-or-lighter-of, thresh-bounds}

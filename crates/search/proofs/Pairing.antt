@@ -10,20 +10,20 @@ use lib.Arith.{lt-of-le-ne}
 use lib.Dec.{eqb}
 use lib.ListN.{length, getD, drop, take}
 use lib.Seq.{take-length, getD-take, length-take-le}
-use Rattle.terms.specs.declared.Context.{Context}
+use Rattle.contexts.specs.declared.Context.{Context}
 use Rattle.costs.specs.declared.DissatProb.{DissatProb}
 use Rattle.candidates.specs.declared.Made as code
-use Rattle.compilation.specs.Candidates.{Made, passedOver}
-use Rattle.compilation.specs.Tables.{Probs, Table}
-use Rattle.compilation.specs.Refusals.{M, State, Res, done, then}
-use Rattle.compilation.specs.Search.{Again, wrappedIfMade}
-use Rattle.laws.proofs.Steps.{then-then}
+use Rattle.definition.specs.Candidates.{Made, passedOver}
+use Rattle.definition.specs.Tables.{Probs, Table}
+use Rattle.definition.specs.Refusals.{M, State, Res, done, then}
+use Rattle.definition.specs.Search.{Again, wrappedIfMade}
+use Rattle.definition_laws.proofs.Steps.{then-then}
 use Rattle.closure.specs.declared.End.the-variants.{Done}
 use Rattle.closure.specs.declared.Closed.{Closed}
-use Rattle.recall.specs.State.{Onward, Paid, slotTable}
-use Rattle.recall.specs.Recalled.{tableAnswer, Tabled}
-use Rattle.recall.proofs.Growing.{onward-refl, onward-trans}
-use Rattle.recall.proofs.Chains.{paid-refl, paid-after}
+use Rattle.search_state.specs.State.{Onward, Paid, slotTable}
+use Rattle.search_state.specs.Recalled.{tableAnswer, Tabled}
+use Rattle.search_state.proofs.Growing.{onward-refl, onward-trans}
+use Rattle.search_state.proofs.Chains.{paid-refl, paid-after}
 use Rattle.stages.specs.declared.Pairing.{Pairing}
 use Rattle.stages.specs.Stages.{False, paired, pairAll}
 use Rattle.stages.proofs.Stages.{then-same, pair-end, pair-on}

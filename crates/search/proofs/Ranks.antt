@@ -5,7 +5,7 @@ use native.Mathlib.Omega.{arith}
 use mathlib.Core.Path.{_≡_}
 use Rattle.costs.specs.declared.DissatProb.{DissatProb}
 use Rattle.policies.specs.Array.{policyAt}
-use Rattle.recall.specs.State.{load}
+use Rattle.search_state.specs.State.{load}
 
 abbrev pub rank : List ℕ → ℕ → DissatProb → (place : ℕ) → ℕ
 rank pol r d place = 32 * load (policyAt pol r) d + place

@@ -10,7 +10,7 @@ use lib.Seq.{getD-take, length-take-le}
 use Rattle.costs.specs.declared.DissatProb.{DissatProb}
 use Rattle.costs.specs.declared.DissatProb.the-variants as Prob
 use Rattle.policies.specs.Array.{policyAt}
-use Rattle.recall.specs.State.{load}
+use Rattle.search_state.specs.State.{load}
 use Rattle.stages.specs.declared.Ask.{Ask}
 use Rattle.stages.specs.declared.Pairing.{Pairing}
 use Rattle.search.specs.Searching.{Lighter, AllLighter}

@@ -9,26 +9,26 @@ use borrow.Author.Tests.{eqb-false}
 use lib.Dec.{eqb}
 use lib.ListN.{length, getD, drop, take, set}
 use lib.Seq.{getD-take, length-take-le}
-use Rattle.terms.specs.declared.Context.{Context}
+use Rattle.contexts.specs.declared.Context.{Context}
 use Rattle.policies.specs.Array.{policyAt}
 use Rattle.costs.specs.declared.DissatProb.{DissatProb}
 use Rattle.writing.specs.WellFormed.{AllBelow}
-use Rattle.compilation.specs.Tables.{Probs, probs, Table}
-use Rattle.compilation.specs.Refusals.{State, Res, done, refused, then, pure}
-use Rattle.compilation.specs.Search.{Again, search}
-use Rattle.laws.proofs.Steps.{then-done, then-refused}
+use Rattle.definition.specs.Tables.{Probs, probs, Table}
+use Rattle.definition.specs.Refusals.{State, Res, done, refused, then, pure}
+use Rattle.definition.specs.Search.{Again, search}
+use Rattle.definition_laws.proofs.Steps.{then-done, then-refused}
 use Rattle.memory.specs.Layout.{tableCount}
 use Rattle.table.specs.Inserted.{seenTable}
 use Rattle.closure.specs.declared.End.{End}
 use Rattle.closure.specs.declared.End.the-variants.{Done, Refused}
 use Rattle.closure.specs.declared.Closed.{Closed}
 use Rattle.closure.proofs.Offering.{closed}
-use Rattle.recall.specs.declared.Out.{Out}
-use Rattle.recall.specs.declared.Out.the-variants as Out
-use Rattle.recall.specs.State.{Ready, Onward, Paid, stateIn, slotTable}
-use Rattle.recall.specs.Recalled.{tableAnswer, IsSlot, Searched, Tabled}
-use Rattle.recall.proofs.Growing.{onward-refl, onward-trans, onward-table, onward-holds}
-use Rattle.recall.proofs.Chains.{paid-refl, paid-after, room-kept, room-below, searched-done, searched-refused}
+use Rattle.search_state.specs.declared.Out.{Out}
+use Rattle.search_state.specs.declared.Out.the-variants as Out
+use Rattle.search_state.specs.State.{Ready, Onward, Paid, stateIn, slotTable}
+use Rattle.search_state.specs.Recalled.{tableAnswer, IsSlot, Searched, Tabled}
+use Rattle.search_state.proofs.Growing.{onward-refl, onward-trans, onward-table, onward-holds}
+use Rattle.search_state.proofs.Chains.{paid-refl, paid-after, room-kept, room-below, searched-done, searched-refused}
 use Rattle.stages.specs.declared.Ask.{Ask}
 use Rattle.stages.specs.declared.Pairing.{Pairing}
 use Rattle.stages.specs.Stages.{asked, askAll, False, tableNo, paired, pairAll, staged}

@@ -3,15 +3,15 @@ use mathlib.Core.Path.{_≡_, refl, sym, subst}
 use mathlib.Core.List.{List}
 use Prim.Native.Nat.{ℕ}
 use native.Mathlib.Omega.{arith}
-use Rattle.compilation.specs.Tables.{Table}
-use Rattle.compilation.specs.Refusals.{M, State, Res, done, refused, then}
+use Rattle.definition.specs.Tables.{Table}
+use Rattle.definition.specs.Refusals.{M, State, Res, done, refused, then}
 use Rattle.table.specs.Rows.{TableHolds}
 use Rattle.closure.specs.declared.End.the-variants.{Done, Refused}
 use Rattle.closure.specs.declared.Closed.{Closed}
-use Rattle.recall.specs.State.{Ready}
-use Rattle.recall.specs.Recalled.{tableAnswer, Tabled}
-use Rattle.recall.proofs.Growing.{onward-refl}
-use Rattle.recall.proofs.Chains.{paid-refl}
+use Rattle.search_state.specs.State.{Ready}
+use Rattle.search_state.specs.Recalled.{tableAnswer, Tabled}
+use Rattle.search_state.proofs.Growing.{onward-refl}
+use Rattle.search_state.proofs.Chains.{paid-refl}
 
 -- an end is not a refusal and done at once
 pub not-both : (n : ℕ) → Refused n ≡ Done → ⊥

@@ -9,7 +9,7 @@ use native.Mathlib.Omega.{arith}
 use borrow.Author.Tests.{eq-eqb, ne-eqb}
 use lib.Ieee.{Float, inf}
 use lib.ListN.{length, take, length-map}
-use Rattle.terms.specs.declared.Context.{Context}
+use Rattle.contexts.specs.declared.Context.{Context}
 use Rattle.costs.specs.declared.DissatProb.{DissatProb}
 use Rattle.costs.specs.Arithmetic.{_⊗_, _⊘_, floatOf}
 use Rattle.policies.specs.Policy.{Policy, Policies, end, _▹_, Thresh, toList, fromList, folded}
@@ -19,17 +19,17 @@ use Rattle.policies.proofs.Forms.{is-thresh, to-from}
 use Rattle.candidates.specs.declared.Candidate as node
 use Rattle.candidates.specs.declared.Made as code
 use Rattle.writing.specs.WellFormed.{AllBelow}
-use Rattle.compilation.specs.Candidates as definition
-use Rattle.compilation.specs.Candidates.{Candidate, multi, threshOf}
-use Rattle.compilation.specs.Tables.{Probs, probs, Table}
-use Rattle.compilation.specs.Refusals.{M, State, state, Stored, Res, done, then}
-use Rattle.compilation.specs.Search.{Again, Searcher, searchOf, search, searcher, searchers, wrapped, wrappedIfMade, multiOf, keysOf}
-use Rattle.compilation.specs.Search.{foldAnds, foldedOr, Best, bests, mostGaining, arranged}
-use Rattle.laws.specs.Bodies.{againIn, bodyIn}
-use Rattle.laws.proofs.Steps.{then-done, then-refused, then-then, searchers-none, searchers-next, threshBody-steps, childProbs, fold-searcher}
+use Rattle.definition.specs.Candidates as definition
+use Rattle.definition.specs.Candidates.{Candidate, multi, threshOf}
+use Rattle.definition.specs.Tables.{Probs, probs, Table}
+use Rattle.definition.specs.Refusals.{M, State, state, Stored, Res, done, then}
+use Rattle.definition.specs.Search.{Again, Searcher, searchOf, search, searcher, searchers, wrapped, wrappedIfMade, multiOf, keysOf}
+use Rattle.definition.specs.Search.{foldAnds, foldedOr, Best, bests, mostGaining, arranged}
+use Rattle.definition_laws.specs.Bodies.{againIn, bodyIn}
+use Rattle.definition_laws.proofs.Steps.{then-done, then-refused, then-then, searchers-none, searchers-next, threshBody-steps, childProbs, fold-searcher}
 use Rattle.memory.specs.Layout.{nodeCount, rowCount, tableCount, maxRows}
 use Rattle.nodes.specs.Views.{seenAll, offered}
-use Rattle.remembered.specs.Slots.{slotAt}
+use Rattle.cache.specs.Slots.{slotAt}
 use Rattle.table.specs.declared.Table as code-table
 use Rattle.table.specs.Rows.{Rows, TableHolds}
 use Rattle.table.specs.Inserted.{seenTable}
@@ -37,12 +37,12 @@ use Rattle.closure.specs.declared.End.{End}
 use Rattle.closure.specs.declared.End.the-variants as End
 use Rattle.closure.specs.declared.Closed.{Closed}
 use Rattle.closure.specs.Closed.{answer}
-use Rattle.recall.specs.declared.Out.{Out}
-use Rattle.recall.specs.declared.Out.the-variants.{Slot, Refused}
-use Rattle.recall.specs.State.{storedAll, stateIn, Ready, Onward, Paid}
-use Rattle.recall.specs.Recalled.{tableAnswer, IsSlot, Searched, Tabled}
-use Rattle.recall.proofs.Growing.{onward-trans, onward-holds, appended-onward, appended-stored}
-use Rattle.recall.proofs.Chains.{tabled-then, searched-done, searched-refused}
+use Rattle.search_state.specs.declared.Out.{Out}
+use Rattle.search_state.specs.declared.Out.the-variants.{Slot, Refused}
+use Rattle.search_state.specs.State.{storedAll, stateIn, Ready, Onward, Paid}
+use Rattle.search_state.specs.Recalled.{tableAnswer, IsSlot, Searched, Tabled}
+use Rattle.search_state.proofs.Growing.{onward-trans, onward-holds, appended-onward, appended-stored}
+use Rattle.search_state.proofs.Chains.{tabled-then, searched-done, searched-refused}
 use Rattle.choice.specs.Arranged.{bestsOf, Gains, Arranges}
 use Rattle.choice.specs.Keys.{keysIf, AllKeys, MultiOf}
 use Rattle.nodes.specs.Offers.{madeSeen}

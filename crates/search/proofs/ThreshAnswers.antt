@@ -6,31 +6,31 @@ use Prim.Native.Nat.{ℕ, _<_, _≤_}
 use native.Mathlib.Omega.{arith}
 use lib.Ieee.{Float}
 use lib.ListN.{length, take}
-use Rattle.terms.specs.declared.Context.{Context}
+use Rattle.contexts.specs.declared.Context.{Context}
 use Rattle.costs.specs.declared.DissatProb.{DissatProb}
 use Rattle.costs.specs.Arithmetic.{_⊗_, _⊘_, floatOf}
 use Rattle.policies.specs.Array.{policyAt, Named, foldNumber}
 use Rattle.writing.specs.WellFormed.{AllBelow}
 use Rattle.candidates.specs.declared.Candidate as node
 use Rattle.candidates.specs.declared.Made as code
-use Rattle.compilation.specs.Tables.{Probs, probs}
-use Rattle.compilation.specs.Refusals.{then}
-use Rattle.compilation.specs.Search.{search, wrapped, multiOf, keysOf, foldedOr}
-use Rattle.laws.specs.FormedPolicy.{FormedPolicy}
-use Rattle.laws.specs.Bodies.{againIn, bodyIn}
+use Rattle.definition.specs.Tables.{Probs, probs}
+use Rattle.definition.specs.Refusals.{then}
+use Rattle.definition.specs.Search.{search, wrapped, multiOf, keysOf, foldedOr}
+use Rattle.definition_laws.specs.FormedPolicy.{FormedPolicy}
+use Rattle.definition_laws.specs.Bodies.{againIn, bodyIn}
 use Rattle.memory.specs.Layout.{nodeCount, rowCount, maxRows, workWords}
 use Rattle.nodes.specs.Views.{offered}
 use Rattle.nodes.specs.Answers.{Holds}
-use Rattle.remembered.specs.Slots.{slotAt}
+use Rattle.cache.specs.Slots.{slotAt}
 use Rattle.table.specs.declared.Table.{Table}
 use Rattle.table.specs.Rows.{Rows}
 use Rattle.closure.specs.declared.End.the-variants.{Done, Refused}
 use Rattle.closure.specs.declared.Closed.{Closed}
 use Rattle.closure.proofs.Offering.{closed}
-use Rattle.recall.specs.declared.Out.{Out}
-use Rattle.recall.specs.declared.Out.the-variants as Out
-use Rattle.recall.specs.State.{stateIn, Classed, load}
-use Rattle.recall.specs.Recalled.{tableAnswer, Searched, Tabled}
+use Rattle.search_state.specs.declared.Out.{Out}
+use Rattle.search_state.specs.declared.Out.the-variants as Out
+use Rattle.search_state.specs.State.{stateIn, Classed, load}
+use Rattle.search_state.specs.Recalled.{tableAnswer, Searched, Tabled}
 use Rattle.choice.specs.Arranged.{Gains, Arranges}
 use Rattle.choice.specs.Keys.{AllKeys, MultiOf}
 use Rattle.choice.specs.Threshes.{MakesThresh}

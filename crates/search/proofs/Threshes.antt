@@ -6,28 +6,28 @@ use Prim.Native.Nat.{ℕ, zero, suc, _+_, _<_, _≤_}
 use native.Mathlib.Omega.{arith}
 use lib.ListN.{length, take, drop, set}
 use lib.Seq.{take-suc-set, length-take-le}
-use Rattle.terms.specs.declared.Context.{Context}
+use Rattle.contexts.specs.declared.Context.{Context}
 use Rattle.correctness.specs.declared.Base.the-variants.{W}
 use Rattle.policies.specs.Policy.{Policy, fromList}
 use Rattle.policies.specs.Forms.{childrenOf, nth}
 use Rattle.writing.specs.WellFormed.{AllBelow}
-use Rattle.compilation.specs.Candidates.{Candidate}
-use Rattle.compilation.specs.Tables.{Probs, Table}
-use Rattle.compilation.specs.Refusals.{M, State, Res, done, refused, then}
-use Rattle.compilation.specs.Search.{Searcher, search, searcher, searchers, chosen, cheapest, Best, bestOf, bests}
-use Rattle.laws.proofs.Steps.{then-done, then-refused, then-then, searchers-none, searchers-next, bestOf-steps, bests-none, bests-next}
+use Rattle.definition.specs.Candidates.{Candidate}
+use Rattle.definition.specs.Tables.{Probs, Table}
+use Rattle.definition.specs.Refusals.{M, State, Res, done, refused, then}
+use Rattle.definition.specs.Search.{Searcher, search, searcher, searchers, chosen, cheapest, Best, bestOf, bests}
+use Rattle.definition_laws.proofs.Steps.{then-done, then-refused, then-then, searchers-none, searchers-next, bestOf-steps, bests-none, bests-next}
 use Rattle.memory.specs.Layout.{nodeCount, tableCount}
 use Rattle.nodes.specs.Views.{seen}
 use Rattle.nodes.proofs.Grown.{seen-kept}
-use Rattle.remembered.specs.Slots.{slotAt, Kept}
+use Rattle.cache.specs.Slots.{slotAt, Kept}
 use Rattle.closure.specs.declared.End.{End}
 use Rattle.closure.specs.declared.End.the-variants as End
-use Rattle.recall.specs.declared.Out.{Out}
-use Rattle.recall.specs.declared.Out.the-variants.{Slot, Refused}
-use Rattle.recall.specs.State.{stateIn, Ready, Onward, Paid}
-use Rattle.recall.specs.Recalled.{IsSlot, Searched}
-use Rattle.recall.proofs.Growing.{onward-refl, onward-trans, below-more}
-use Rattle.recall.proofs.Chains.{paid-refl, paid-after, searched-done, searched-refused}
+use Rattle.search_state.specs.declared.Out.{Out}
+use Rattle.search_state.specs.declared.Out.the-variants.{Slot, Refused}
+use Rattle.search_state.specs.State.{stateIn, Ready, Onward, Paid}
+use Rattle.search_state.specs.Recalled.{IsSlot, Searched}
+use Rattle.search_state.proofs.Growing.{onward-refl, onward-trans, below-more}
+use Rattle.search_state.proofs.Chains.{paid-refl, paid-after, searched-done, searched-refused}
 use Rattle.choice.specs.Arranged.{bestsOf}
 use Rattle.choice.specs.Chosen.{suitsWant, chosenSeen, Chooses}
 use Rattle.choice.specs.declared.Chosen.{Chosen}

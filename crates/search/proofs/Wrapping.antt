@@ -7,21 +7,21 @@ use native.Mathlib.Numerals.{add-one}
 use native.Mathlib.Omega.{arith}
 use lib.ListN.{length, drop}
 use lib.Ieee.{Float}
-use Rattle.terms.specs.declared.Context.{Context}
+use Rattle.contexts.specs.declared.Context.{Context}
 use Rattle.policies.specs.Array.{policyAt}
 use Rattle.costs.specs.declared.DissatProb.{DissatProb}
 use Rattle.costs.specs.declared.DissatProb.the-variants as Prob
 use Rattle.candidates.specs.declared.Candidate as node
 use Rattle.candidates.specs.declared.Made as code
 use Rattle.candidates.specs.declared.Made.the-variants as Made
-use Rattle.compilation.specs.Candidates.{Candidate, Cast, allCasts, castNo}
-use Rattle.compilation.specs.Tables as definition-tables
-use Rattle.compilation.specs.Tables.{Probs, probs}
-use Rattle.compilation.specs.Refusals.{M, State, Stored, done, refused, then}
-use Rattle.compilation.specs.Insertion.{insertClosure}
-use Rattle.compilation.specs.Search.{Again, search, without, wrapped, wrappedIfMade, castsOf, forEach, insertedIfTyped}
-use Rattle.laws.specs.Bodies.{againFor, againIn}
-use Rattle.laws.proofs.Steps.{then-done, then-refused, then-then, castsOf-none, castsOf-next, wrapped-never, wrapped-redo}
+use Rattle.definition.specs.Candidates.{Candidate, Cast, allCasts, castNo}
+use Rattle.definition.specs.Tables as definition-tables
+use Rattle.definition.specs.Tables.{Probs, probs}
+use Rattle.definition.specs.Refusals.{M, State, Stored, done, refused, then}
+use Rattle.definition.specs.Insertion.{insertClosure}
+use Rattle.definition.specs.Search.{Again, search, without, wrapped, wrappedIfMade, castsOf, forEach, insertedIfTyped}
+use Rattle.definition_laws.specs.Bodies.{againFor, againIn}
+use Rattle.definition_laws.proofs.Steps.{then-done, then-refused, then-then, castsOf-none, castsOf-next, wrapped-never, wrapped-redo}
 use Rattle.nodes.specs.Views.{offered}
 use Rattle.nodes.proofs.Casts.{casts-from}
 use Rattle.table.specs.declared.Table.{Table}
@@ -32,13 +32,13 @@ use Rattle.closure.specs.declared.End.the-variants.{Done, Refused}
 use Rattle.closure.specs.declared.Closed.{Closed}
 use Rattle.closure.specs.Closed.{answer, Closes}
 use Rattle.closure.proofs.Offering.{closed}
-use Rattle.recall.specs.declared.Out.{Out}
-use Rattle.recall.specs.declared.Out.the-variants as Out
-use Rattle.recall.specs.State.{Ready, Onward, Paid, flagOf, stateIn, storedAll, slotTable}
-use Rattle.recall.specs.Recalled.{tableAnswer, IsSlot, Searched, Tabled}
-use Rattle.recall.proofs.Growing.{onward-refl, onward-trans, onward-table, onward-holds, extends-onward, extends-stored}
-use Rattle.recall.proofs.Chains.{paid-refl, paid-after, room-kept, tabled-then, tabled-next, tabled-stop, tabled-done, tabled-refused}
-use Rattle.recall.proofs.Chains.{searched-next, searched-stop, closes-tabled}
+use Rattle.search_state.specs.declared.Out.{Out}
+use Rattle.search_state.specs.declared.Out.the-variants as Out
+use Rattle.search_state.specs.State.{Ready, Onward, Paid, flagOf, stateIn, storedAll, slotTable}
+use Rattle.search_state.specs.Recalled.{tableAnswer, IsSlot, Searched, Tabled}
+use Rattle.search_state.proofs.Growing.{onward-refl, onward-trans, onward-table, onward-holds, extends-onward, extends-stored}
+use Rattle.search_state.proofs.Chains.{paid-refl, paid-after, room-kept, tabled-then, tabled-next, tabled-stop, tabled-done, tabled-refused}
+use Rattle.search_state.proofs.Chains.{searched-next, searched-stop, closes-tabled}
 use Rattle.nodes.specs.Offers.{madeSeen}
 use Rattle.offers.specs.Offering.{SlotReady, InsertedCasts}
 use Rattle.search.specs.Searching.{Going, Doing, castOnce}

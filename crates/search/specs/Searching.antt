@@ -1,11 +1,11 @@
--- What the functions of the search leave, by the definition (compilation, specs/Search.antt) on what work memory stands for. Assumes nothing.
+-- What the functions of the search leave, by the definition (definition, specs/Search.antt) on what work memory stands for. Assumes nothing.
 use mathlib.Core.Bool.{Bool}
 use mathlib.Core.List.{List, [], _∷_, map}
 use mathlib.Core.Path.{_≡_}
 use Prim.Native.Nat.{ℕ, suc, _<_, _≤_}
 use lib.Ieee.{Float}
 use lib.ListN.{length, getD, take}
-use Rattle.terms.specs.declared.Context.{Context}
+use Rattle.contexts.specs.declared.Context.{Context}
 use Rattle.costs.specs.declared.DissatProb.{DissatProb}
 use Rattle.costs.specs.declared.DissatProb.the-variants as Prob
 use Rattle.costs.specs.Arithmetic.{_⊕_, _⊖_, _⊗_, _⊘_, floatOf, 1·}
@@ -16,17 +16,17 @@ use Rattle.writing.specs.WellFormed.{AllBelow}
 use Rattle.candidates.specs.declared.Candidate as node
 use Rattle.candidates.specs.declared.Made as code
 use Rattle.candidates.specs.declared.Made.the-variants as Made
-use Rattle.compilation.specs.Candidates.{Candidate, Cast}
-use Rattle.compilation.specs.Tables.{Probs, probs, Table}
-use Rattle.compilation.specs.Refusals.{M, State, Stored, Res, done, refused, then, _>>=_}
-use Rattle.compilation.specs.Search.{search, searchers, Searcher, leaves, insertedIfTyped, forEach, orNone, Best, bests, chosen, cheapest}
-use Rattle.laws.specs.FormedPolicy.{FormedPolicy}
-use Rattle.laws.specs.Bodies.{bodyOf}
+use Rattle.definition.specs.Candidates.{Candidate, Cast}
+use Rattle.definition.specs.Tables.{Probs, probs, Table}
+use Rattle.definition.specs.Refusals.{M, State, Stored, Res, done, refused, then, _>>=_}
+use Rattle.definition.specs.Search.{search, searchers, Searcher, leaves, insertedIfTyped, forEach, orNone, Best, bests, chosen, cheapest}
+use Rattle.definition_laws.specs.FormedPolicy.{FormedPolicy}
+use Rattle.definition_laws.specs.Bodies.{bodyOf}
 use Rattle.memory.specs.Layout.{nodeCount, tableCount}
 use Rattle.nodes.specs.Views.{seen, offered}
 use Rattle.nodes.specs.Answers.{Holds}
 use Rattle.nodes.specs.Offers.{Offerable}
-use Rattle.remembered.specs.Slots.{slotAt, Kept}
+use Rattle.cache.specs.Slots.{slotAt, Kept}
 use Rattle.table.specs.declared.Table as code-table
 use Rattle.table.specs.Rows.{TableHolds}
 use Rattle.table.specs.Inserted.{stateOf, seenTable, Extends}
@@ -34,7 +34,7 @@ use Rattle.closure.specs.declared.End.{End}
 use Rattle.closure.specs.declared.End.the-variants.{Done, Refused}
 use Rattle.closure.specs.declared.Closed.{Closed}
 use Rattle.closure.specs.Closed.{answer}
-use Rattle.recall.specs.State.{Classed, Ready, Onward, Room, Paid, load, stateIn, slotTable}
+use Rattle.search_state.specs.State.{Classed, Ready, Onward, Room, Paid, load, stateIn, slotTable}
 use Rattle.stages.specs.declared.Ask.{Ask}
 use Rattle.stages.specs.declared.Pairing.{Pairing}
 use Rattle.stages.specs.Stages.{askAll, False}

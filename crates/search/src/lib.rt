@@ -2,7 +2,7 @@
 // search of a policy, the wrapping of one result and the pairing of tables call one another. Every function works for the policy that number r of the
 // array `pol` stands for, at the probabilities of satisfaction and of dissatisfaction.
 //
-// Its contracts cite `specs/Searching.antt`; crate `recall` says what a search and work on a table leave.
+// Its contracts cite `specs/Searching.antt`; crate `search_state` says what a search and work on a table leave.
 ghost use mathlib.Core.Path.{_≡_};
 ghost use mathlib.Core.List.{map};
 ghost use Prim.Native.Nat.{_<_, _≤_};
@@ -10,19 +10,19 @@ ghost use lib.ListN.{take, length};
 ghost use Rattle.costs.specs.Arithmetic.{_⊘_, _⊗_, floatOf};
 ghost use Rattle.policies.specs.Forms.{kindOf, childrenOf};
 ghost use Rattle.policies.specs.Array.{policyAt};
-ghost use Rattle.compilation.specs.Candidates.{allCasts, castNo};
-ghost use Rattle.compilation.specs.Tables.{probs};
-ghost use Rattle.compilation.specs.Refusals.{then};
-ghost use Rattle.compilation.specs.Search.{search, searcher, without, wrapped, wrappedIfMade, castsOf, andOrs, multiOf, keysOf, foldedOr};
-ghost use Rattle.laws.specs.Bodies.{againIn, bodyIn};
+ghost use Rattle.definition.specs.Candidates.{allCasts, castNo};
+ghost use Rattle.definition.specs.Tables.{probs};
+ghost use Rattle.definition.specs.Refusals.{then};
+ghost use Rattle.definition.specs.Search.{search, searcher, without, wrapped, wrappedIfMade, castsOf, andOrs, multiOf, keysOf, foldedOr};
+ghost use Rattle.definition_laws.specs.Bodies.{againIn, bodyIn};
 ghost use Rattle.memory.specs.Layout.{nodeCount};
 ghost use Rattle.nodes.specs.Views.{offered};
 ghost use Rattle.nodes.specs.Answers.{Holds};
 ghost use Rattle.nodes.specs.Offers.{Offerable};
 ghost use Rattle.table.specs.Rows.{TableHolds};
 ghost use Rattle.table.specs.Inserted.{seenTable};
-ghost use Rattle.recall.specs.State.{stateIn, slotTable, flagOf};
-ghost use Rattle.recall.specs.Recalled.{Searched, Tabled, tableAnswer};
+ghost use Rattle.search_state.specs.State.{stateIn, slotTable, flagOf};
+ghost use Rattle.search_state.specs.Recalled.{Searched, Tabled, tableAnswer};
 ghost use Rattle.stages.specs.Stages.{paired, pairAll, staged};
 ghost use Rattle.nodes.specs.Offers.{madeSeen};
 ghost use Rattle.pairing.specs.Mades.{Paired};
@@ -37,12 +37,12 @@ use choice::Want;
 use closure::Closed;
 use closure::End;
 use costs::DissatProb;
-use recall::Out;
-use remembered::Found;
+use search_state::Out;
+use cache::Found;
 use stages::Ask;
 use stages::Pairing;
 use table::Table;
-use terms::Context;
+use contexts::Context;
 
 // The casts, and the kinds of policies.
 const CASTS: u8 = 10;
@@ -91,11 +91,11 @@ pub fn search(
     requires { ⌜ Going 0 (now pol) r dissat (now work) ⌝ }
     ensures { λ o. ⌜ Searched (search context (policyAt (now (pol .entry)) r) (probs sat dissat) (stateIn (now (pol .entry)) (now (work .entry)))) (now (pol .entry)) o (now (work .entry)) (now (work .exit)) ⌝ }
 {
-    match recall::recall(pol, work, r, sat, dissat) {
+    match search_state::recall(pol, work, r, sat, dissat) {
         Found::At(s) => Out::Slot(s),
         Found::Missing => {
             let c = body(context, pol, work, r, sat, dissat);
-            recall::remember(pol, work, r, sat, dissat, c)
+            search_state::remember(pol, work, r, sat, dissat, c)
         }
     }
 }
@@ -760,7 +760,7 @@ fn folded(
             end: End::Refused(no),
         },
         Out::Slot(s) => {
-            let folded_table = recall::table_of(work, s);
+            let folded_table = search_state::table_of(work, s);
             Closed {
                 table: folded_table,
                 end: End::Done,

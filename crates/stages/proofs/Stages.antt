@@ -6,14 +6,14 @@ use native.Mathlib.Omega.{arith}
 use lib.ListN.{length, getD, drop}
 use lib.Seq.{drop-cons, drop-length}
 use lib.Ieee.{Float}
-use Rattle.terms.specs.declared.Context.{Context}
+use Rattle.contexts.specs.declared.Context.{Context}
 use Rattle.policies.specs.Policy.{Policy, Unsatisfiable, Trivial, Key, Lock, Hash, And, Or, Thresh}
 use Rattle.policies.specs.Forms.{kindOf}
 use Rattle.policies.specs.Array.{policyAt}
-use Rattle.compilation.specs.Tables.{Probs, Table}
-use Rattle.compilation.specs.Refusals.{M, State, Res, done, refused, then, pure}
-use Rattle.compilation.specs.Search.{Again, Searcher, Four, andBody, andOrs, fourOf, orBody, searcher}
-use Rattle.laws.proofs.Steps.{then-done, then-refused, then-then, andBody-steps, andOrs-plain, andOrs-steps, fourOf-steps, orBody-steps, orPairs}
+use Rattle.definition.specs.Tables.{Probs, Table}
+use Rattle.definition.specs.Refusals.{M, State, Res, done, refused, then, pure}
+use Rattle.definition.specs.Search.{Again, Searcher, Four, andBody, andOrs, fourOf, orBody, searcher}
+use Rattle.definition_laws.proofs.Steps.{then-done, then-refused, then-then, andBody-steps, andOrs-plain, andOrs-steps, fourOf-steps, orBody-steps, orPairs}
 use Rattle.stages.specs.declared.Ask.{Ask}
 use Rattle.stages.specs.declared.Pairing.{Pairing}
 use Rattle.stages.specs.Stages.{asked, askAll, paired, pairAll, staged, andAsks, andPairings, andOrAsks, andOrPairings}

@@ -6,15 +6,15 @@ use Prim.Native.Nat.{ℕ}
 use lib.Dec.{eqb}
 use lib.ListN.{getD}
 use lib.Ieee.{Float}
-use Rattle.terms.specs.declared.Context.{Context}
+use Rattle.contexts.specs.declared.Context.{Context}
 use Rattle.costs.specs.declared.DissatProb.{DissatProb}
 use Rattle.costs.specs.declared.DissatProb.the-variants as Prob
 use Rattle.costs.specs.Arithmetic.{_⊕_, _⊗_, 0·, 1·}
 use Rattle.policies.specs.Array.{policyAt}
-use Rattle.compilation.specs.Candidates.{false′, pairNo}
-use Rattle.compilation.specs.Tables.{Probs, probs, Table}
-use Rattle.compilation.specs.Refusals.{M, State, Res, done, refused, then, _>>=_, pure}
-use Rattle.compilation.specs.Search.{Again, binary, ternary, search, orNone}
+use Rattle.definition.specs.Candidates.{false′, pairNo}
+use Rattle.definition.specs.Tables.{Probs, probs, Table}
+use Rattle.definition.specs.Refusals.{M, State, Res, done, refused, then, _>>=_, pure}
+use Rattle.definition.specs.Search.{Again, binary, ternary, search, orNone}
 use Rattle.stages.specs.declared.Ask.{Ask}
 use Rattle.stages.specs.declared.Pairing.{Pairing}
 

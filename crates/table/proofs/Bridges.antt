@@ -9,10 +9,10 @@ use borrow.Author.Tests.{lt-ltb, le-ltb}
 use lib.Dec.{ltb}
 use Rattle.writing.specs.WellFormed.{AllBelow}
 use Rattle.candidates.specs.declared.Candidate as code
-use Rattle.compilation.specs.Candidates.{Candidate}
-use Rattle.compilation.specs.Tables.{Probs, costAt, keyBefore, enter}
-use Rattle.compilation.specs.Insertion.{any, filter, beats}
-use Rattle.laws.proofs.Keys.{keyNumber, before, not-before}
+use Rattle.definition.specs.Candidates.{Candidate}
+use Rattle.definition.specs.Tables.{Probs, costAt, keyBefore, enter}
+use Rattle.definition.specs.Insertion.{any, filter, beats}
+use Rattle.definition_laws.proofs.Keys.{keyNumber, before, not-before}
 use Rattle.memory.specs.Layout.{nodeCount}
 use Rattle.nodes.specs.Views.{seen, seenAll, seenAs, offered}
 use Rattle.nodes.proofs.Seen.{Shows, seen-fields}

@@ -7,18 +7,18 @@ use native.Mathlib.Omega.{arith}
 use borrow.Author.Tests.{le-leb, lt-leb}
 use lib.Dec.{leb}
 use lib.ListN.{length, length-map}
-use Rattle.terms.specs.declared.Context.{Context}
+use Rattle.contexts.specs.declared.Context.{Context}
 use Rattle.words.specs.Floats.{isCost}
 use Rattle.figures.specs.Bounds.{Small}
 use Rattle.figures.specs.Validity.{checkLocalValidity}
 use Rattle.figures.proofs.Entering.{candidate-small}
 use Rattle.writing.specs.WellFormed.{AllBelow}
 use Rattle.candidates.specs.declared.Candidate as code
-use Rattle.compilation.specs.Tables as definition
-use Rattle.compilation.specs.Tables.{Probs, costAt, enter}
-use Rattle.compilation.specs.Refusals.{state, Stored, done, maxAccepted}
-use Rattle.compilation.specs.Insertion.{any, beats, worthwhile, insert}
-use Rattle.laws.proofs.Steps.{unbeaten, insert-unworthy, insert-costless, insert-beaten, insert-table-full, insert-nodes-full, insert-enters}
+use Rattle.definition.specs.Tables as definition
+use Rattle.definition.specs.Tables.{Probs, costAt, enter}
+use Rattle.definition.specs.Refusals.{state, Stored, done, maxAccepted}
+use Rattle.definition.specs.Insertion.{any, beats, worthwhile, insert}
+use Rattle.definition_laws.proofs.Steps.{unbeaten, insert-unworthy, insert-costless, insert-beaten, insert-table-full, insert-nodes-full, insert-enters}
 use Rattle.nodes.specs.declared.Added.{Added}
 use Rattle.nodes.specs.declared.Added.the-variants.{At, Full}
 use Rattle.memory.specs.Layout.{nodeCount, maxNodes, maxEntries}

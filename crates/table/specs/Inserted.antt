@@ -1,15 +1,15 @@
--- What an offer to a table leaves, by the definition of insertion (compilation, specs/Insertion.antt) on what nodes stand for. Assumes nothing.
+-- What an offer to a table leaves, by the definition of insertion (definition, specs/Insertion.antt) on what nodes stand for. Assumes nothing.
 use mathlib.Core.Bool.{Bool, true, false}
 use mathlib.Core.List.{List}
 use mathlib.Core.Path.{_≡_}
 use Prim.Native.Nat.{ℕ, suc, _-_}
-use Rattle.terms.specs.declared.Context.{Context}
+use Rattle.contexts.specs.declared.Context.{Context}
 use Rattle.candidates.specs.declared.Candidate as code
-use Rattle.compilation.specs.Candidates as definition
-use Rattle.compilation.specs.Tables as definition-tables
-use Rattle.compilation.specs.Tables.{Probs}
-use Rattle.compilation.specs.Refusals.{State, state, Stored, Res, done, refused}
-use Rattle.compilation.specs.Insertion.{Offered, insert}
+use Rattle.definition.specs.Candidates as definition
+use Rattle.definition.specs.Tables as definition-tables
+use Rattle.definition.specs.Tables.{Probs}
+use Rattle.definition.specs.Refusals.{State, state, Stored, Res, done, refused}
+use Rattle.definition.specs.Insertion.{Offered, insert}
 use Rattle.memory.specs.Layout.{nodeCount, rowCount}
 use Rattle.nodes.specs.Views.{seen, seenAll, offered}
 use Rattle.nodes.specs.Answers.{Holds, Grows, SameTables}

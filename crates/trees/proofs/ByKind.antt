@@ -10,7 +10,7 @@ use Rattle.types.specs.declared.«Type».{«Type»}
 use Rattle.types.specs.declared.TypeResult.{TypeResult}
 use Rattle.types.specs.TypeRules as rule
 use Rattle.types.specs.TypeOrder.{unpack}
-use Rattle.terms.specs.declared.Context.{Context}
+use Rattle.contexts.specs.declared.Context.{Context}
 use Rattle.trees.specs.Reading.{Answer, done}
 use Rattle.trees.specs.Tree.{find}
 use Rattle.trees.specs.Typing.{inSegwitv0, inTap}

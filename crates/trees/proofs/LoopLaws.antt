@@ -13,7 +13,7 @@ use Rattle.records.specs.Payloads.{Payload, childrenOf}
 use Rattle.records.specs.RecordForm.{recordLength, kindOf, fragmentPayload}
 use Rattle.records.proofs.Laws.{length-bounds}
 use Rattle.types.specs.declared.«Type».{«Type»}
-use Rattle.terms.specs.declared.Context.{Context}
+use Rattle.contexts.specs.declared.Context.{Context}
 use Rattle.trees.specs.declared.Step.{Step}
 use Rattle.trees.specs.declared.Step.the-variants as Step
 use Rattle.trees.specs.Reading.{Answer, refused, done, _>>=_, orRefuse, badTree, illTyped, treeTooLarge, maxRecords}

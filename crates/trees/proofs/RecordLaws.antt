@@ -24,7 +24,7 @@ use Rattle.records.proofs.Laws.{is-three-children, is-threshold, is-keys, thres
 use Rattle.records.proofs.Laws.{fits-some, unfit-none}
 use Rattle.types.specs.declared.«Type».{«Type»}
 use Rattle.types.specs.declared.TypeResult.{TypeResult}
-use Rattle.terms.specs.declared.Context.{Context}
+use Rattle.contexts.specs.declared.Context.{Context}
 use Rattle.trees.specs.Reading.{Answer, refused, done, _>>=_, orRefuse, badTree, treeTooLarge}
 use Rattle.trees.specs.Reading.{Slots, Taken, takeAll, rootOf, addRecord, readFrom}
 use Rattle.trees.specs.Rules.{answered, ruleOf, makeType}

@@ -11,7 +11,7 @@ use Rattle.types.specs.declared.«Type».{«Type»}
 use Rattle.types.specs.declared.TypeResult.{TypeResult}
 use Rattle.types.specs.declared.TypeResult.the-variants.{Ok, IllTyped}
 use Rattle.types.specs.TypeRules as rule
-use Rattle.terms.specs.declared.Context.{Context}
+use Rattle.contexts.specs.declared.Context.{Context}
 use Rattle.trees.specs.Fragment.{Fragment, Fragments, Thresh}
 use Rattle.trees.specs.Typing.{_>>=_, allTyped, andAll, typeOf, typesOf}
 use Rattle.trees.specs.Reading.{mapAnswer}

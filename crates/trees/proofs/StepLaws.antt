@@ -12,7 +12,7 @@ use Rattle.records.specs.RecordForm.{fragmentPayload}
 use Rattle.types.specs.declared.«Type».{«Type»}
 use Rattle.types.specs.declared.TypeResult.{TypeResult}
 use Rattle.types.specs.declared.TypeResult.the-variants.{Ok, IllTyped}
-use Rattle.terms.specs.declared.Context.{Context}
+use Rattle.contexts.specs.declared.Context.{Context}
 use Rattle.trees.specs.declared.Children.{Children}
 use Rattle.trees.specs.declared.Step.{Step}
 use Rattle.trees.specs.declared.Step.the-variants as Step

@@ -1,6 +1,6 @@
 -- Fragment trees, written from document 01, "Records": each of its 27 fragment kinds is here under its own name.
 use Prim.Native.Nat.{ℕ}
-use Rattle.terms.specs.Leaves.{LockKind, HashKind}
+use Rattle.contexts.specs.Leaves.{LockKind, HashKind}
 use mathlib.Core.List.{List, [], _∷_}
 
 infixr 50 _▹_

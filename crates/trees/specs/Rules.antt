@@ -8,7 +8,7 @@ use Rattle.types.specs.declared.«Type».{«Type»}
 use Rattle.types.specs.declared.TypeResult.{TypeResult}
 use Rattle.types.specs.declared.TypeResult.the-variants.{Ok, IllTyped}
 use Rattle.types.specs.TypeRules as rule
-use Rattle.terms.specs.declared.Context.{Context}
+use Rattle.contexts.specs.declared.Context.{Context}
 use Rattle.trees.specs.Typing.{inSegwitv0, inTap}
 use Rattle.trees.specs.Reading.{Answer, refused, done, badTree, illTyped}
 use Rattle.trees.specs.Tree.{Line, _is_, find}

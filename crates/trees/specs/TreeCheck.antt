@@ -10,8 +10,8 @@ use Rattle.records.specs.Payloads.{Payload}
 use Rattle.types.specs.declared.«Type».{«Type»}
 use Rattle.types.specs.declared.TypeResult.{TypeResult}
 use Rattle.types.specs.declared.TypeResult.the-variants.{Ok, IllTyped}
-use Rattle.terms.specs.declared.Context.{Context}
-use Rattle.terms.specs.declared.Context.the-variants.{Segwitv0, Tap}
+use Rattle.contexts.specs.declared.Context.{Context}
+use Rattle.contexts.specs.declared.Context.the-variants.{Segwitv0, Tap}
 use Rattle.trees.specs.Fragment.{Fragment}
 use Rattle.trees.specs.Typing.{typeOf}
 use Rattle.trees.specs.Reading.{Answer, refused, done, _>>=_, orRefuse, badTree, illTyped, maxRecords, readTree}

@@ -6,8 +6,8 @@ use Rattle.types.specs.declared.«Type».{«Type»}
 use Rattle.types.specs.declared.TypeResult.{TypeResult}
 use Rattle.types.specs.declared.TypeResult.the-variants.{Ok, IllTyped}
 use Rattle.types.specs.TypeRules as rule
-use Rattle.terms.specs.declared.Context.{Context}
-use Rattle.terms.specs.declared.Context.the-variants.{Segwitv0, Tap}
+use Rattle.contexts.specs.declared.Context.{Context}
+use Rattle.contexts.specs.declared.Context.the-variants.{Segwitv0, Tap}
 use Rattle.trees.specs.Fragment.{Fragment, Fragments, end, _▹_, False, True, PkK, PkH, Lock, Hash}
 use Rattle.trees.specs.Fragment.{Alt, Swap, Check, DupIf, Verify, NonZero, ZeroNotEqual}
 use Rattle.trees.specs.Fragment.{AndB, AndV, OrB, OrD, OrC, OrI, AndOr, Thresh, Multi, MultiA}

@@ -12,7 +12,7 @@ use Rattle.types.specs.declared.«Type».{«Type»}
 use Rattle.types.specs.declared.Unpacked.{Unpacked}
 use Rattle.types.specs.declared.Unpacked.the-variants.{Is, NotAType}
 use Rattle.types.specs.TypeOrder.{unpack}
-use Rattle.terms.specs.declared.Context.{Context}
+use Rattle.contexts.specs.declared.Context.{Context}
 use Rattle.trees.specs.declared.Checked.the-variants as Checked
 use Rattle.trees.specs.declared.Slot.{Slot}
 use Rattle.trees.specs.declared.Slot.the-variants as Slot

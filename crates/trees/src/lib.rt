@@ -17,7 +17,7 @@ ghost use Rattle.trees.specs.Checked.{answerOf, typeOnly};
 ghost use Rattle.trees.specs.WorkMemory.{slotOf, slotsIn, slotAnswer, childrenTaken, arity, Stepped};
 ghost use Rattle.words.specs.Memory.{zeroed};
 use records::RecordLength;
-use terms::Context;
+use contexts::Context;
 use types::Type;
 use types::TypeResult;
 use types::Unpacked;

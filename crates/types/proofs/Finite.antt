@@ -2,7 +2,7 @@
 use mathlib.Core.Path.{_≡_}
 use mathlib.Core.Bool.{Bool, true, false, _&&_}
 use Rattle.types.specs.Names.{Base, B, K, «V», W, Input, Zero, One, Any, OneNonZero, AnyNonZero, Dissat, None, Unique, Unknown}
-use Rattle.terms.proofs.Bools.{and-l, and-r}
+use Rattle.contexts.proofs.Bools.{and-l, and-r}
 
 -- the values of A can be gone through
 pub record Finite (A : Type 0) : Type 1 where

@@ -10,8 +10,8 @@ use borrow.Author.Tests.{lt-ltb, le-ltb, ltb-true, ltb-false}
 use Rattle.types.specs.Names.{Correctness, Malleability, «Type», Ordering, Less, Equal, Greater, Unpacked, Is, NotAType}
 use Rattle.correctness.specs.Digits.{baseRank, inputRank, packCorr, unpackCorr}
 use Rattle.malleability.specs.Digits.{dissatRank, unpackMall}
-use Rattle.terms.specs.Bools.{boolRank}
-use Rattle.terms.proofs.Bools.{bool-lt, bool-of}
+use Rattle.contexts.specs.Bools.{boolRank}
+use Rattle.contexts.proofs.Bools.{bool-lt, bool-of}
 use Rattle.correctness.proofs.Digits.{base-lt, input-lt, base-of, input-of}
 use Rattle.malleability.proofs.Digits.{dissat-lt, dissat-of}
 use Rattle.types.specs.TypeOrder.{cmpRank, andThen, cmpCorr, cmpMall, cmpType, pack, unpack}

@@ -14,7 +14,7 @@ use Rattle.types.specs.Names.{Correctness, Malleability, «Type», TypeR
 use Rattle.types.specs.declared.TypeSoFar.{TypeSoFar}
 use Rattle.correctness.specs.Letters.{isB, isW}
 use Rattle.malleability.specs.Letters.{isUnique}
-use Rattle.terms.specs.Lists.{all, sum, one, count}
+use Rattle.contexts.specs.Lists.{all, sum, one, count}
 use Rattle.correctness.specs.CorrectnessRules.{numArgs, thresholdInput, orBInput}
 use Rattle.types.specs.TypeRules.{typedIf, kOfN, threshold, thresholdOf}
 use Rattle.malleability.specs.ThresholdSteps.{counted}

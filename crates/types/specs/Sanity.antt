@@ -3,7 +3,7 @@ use mathlib.Core.Bool.{Bool, true, false, not, _&&_, _||_}
 use Rattle.types.specs.Names.{Correctness, «Type», TypeResult, Ok, IllTyped}
 use Rattle.correctness.specs.Letters.{isK, isV, isW, isZero, isNonZero, isAny}
 use Rattle.malleability.specs.Letters.{isNone, isUnique}
-use Rattle.terms.specs.Bools.{implies}
+use Rattle.contexts.specs.Bools.{implies}
 
 abbrev pub saneCorr : Correctness → Bool
 saneCorr c =

@@ -2,7 +2,7 @@
 use mathlib.Core.Bool.{cond}
 use Prim.Native.Nat.{ℕ, _+_, _*_, _/_, _%_}
 use lib.Dec.{ltb}
-use Rattle.terms.specs.Bools.{boolRank}
+use Rattle.contexts.specs.Bools.{boolRank}
 use Rattle.correctness.specs.Digits.{baseRank, inputRank, packCorr, unpackCorr}
 use Rattle.malleability.specs.Digits.{dissatRank, unpackMall}
 use Rattle.types.specs.Names.{Correctness, Malleability, «Type», Ordering, Less, Equal, Greater, Unpacked, Is, NotAType}

@@ -8,7 +8,7 @@ use lib.ListN.{getD, set, take, drop}
 use Rattle.records.specs.Payloads.{Payload, numberOf, kOf, keysOf, childrenOf}
 use Rattle.records.specs.RecordForm.{kindOf}
 use Rattle.trees.specs.Fragment.{Fragment, False, True, PkK, PkH, Lock, Hash}
-use Rattle.terms.specs.Leaves.{After, Older, Sha256, Hash256, Ripemd160, Hash160}
+use Rattle.contexts.specs.Leaves.{After, Older, Sha256, Hash256, Ripemd160, Hash160}
 use Rattle.trees.specs.Fragment.{Alt, Swap, Check, DupIf, Verify, NonZero, ZeroNotEqual}
 use Rattle.trees.specs.Fragment.{AndB, AndV, OrB, OrD, OrC, OrI, AndOr, Thresh, Multi, MultiA}
 use Rattle.trees.specs.Reading.{done, Slots, Taken, andFirst, takeAll, rootOf, readFrom, readTree}

@@ -15,7 +15,7 @@ use Rattle.records.specs.RecordForm.{kindOf, fragmentPayload}
 use Rattle.records.specs.declared.Shape.{Shape}
 use Rattle.records.specs.declared.Shape.the-variants as Shape
 use Rattle.records.proofs.Laws.{fragment-record, is-number, is-lock, is-threshold, is-keys, lock-bounds, threshold-bounds, keys-bounds}
-use Rattle.terms.specs.Leaves.{After, Older, Sha256, Hash256, Ripemd160, Hash160}
+use Rattle.contexts.specs.Leaves.{After, Older, Sha256, Hash256, Ripemd160, Hash160}
 use Rattle.trees.specs.Fragment.{Fragment, toList, False, True, PkK, PkH, Lock, Hash}
 use Rattle.trees.specs.Fragment.{Alt, Swap, Check, DupIf, Verify, NonZero, ZeroNotEqual}
 use Rattle.trees.specs.Fragment.{AndB, AndV, OrB, OrD, OrC, OrI, AndOr, Thresh, Multi, MultiA}

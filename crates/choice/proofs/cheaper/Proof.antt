@@ -1,6 +1,6 @@
 -- `choice::cheaper` meets its contract. Assumes nothing.
 use borrow.Author.Needs.{needs}
-use Rattle.compilation.specs.Tables.{probs}
+use Rattle.definition.specs.Tables.{probs}
 use Rattle.choice.proofs.Choosing.{cheaper-first, cheaper-second}
 use Rattle.choice.proofs.cheaper.Statement.{statement}
 use Rattle.choice.proofs.cheaper.Tie as tie

@@ -1,7 +1,7 @@
 -- `choice::choose` meets its contract: it goes from the last entry to the first, as the definition does, with the best of those passed.
 -- Assumes nothing.
 use native.Mathlib.Omega.{arith}
-use Rattle.compilation.specs.Tables.{probs}
+use Rattle.definition.specs.Tables.{probs}
 use Rattle.choice.proofs.Choosing.{Choosing, choosing-starts, choosing-on, choosing-ends}
 use Rattle.choice.proofs.choose.Statement.{statement}
 use Rattle.choice.proofs.choose.Tie as tie

@@ -3,7 +3,7 @@ use mathlib.Core.Logic.{⊎-elim}
 use native.Mathlib.Omega.{arith}
 use Prim.Native.Nat.{_-_}
 use borrow.Author.Needs.{needs}
-use Rattle.compilation.specs.Tables.{probs}
+use Rattle.definition.specs.Tables.{probs}
 use Rattle.choice.proofs.Arranging.{Gaining, infinite, gaining-starts, gaining-gains, gaining-other, gaining-ends}
 use Rattle.choice.proofs.most_gaining.Statement.{statement}
 use Rattle.choice.proofs.most_gaining.Tie as tie

@@ -1,6 +1,6 @@
 -- `choice::next` meets its contract. Assumes nothing.
 use borrow.Author.Needs.{needs}
-use Rattle.compilation.specs.Tables.{probs}
+use Rattle.definition.specs.Tables.{probs}
 use Rattle.choice.proofs.Choosing.{next-suits, next-other}
 use Rattle.choice.proofs.next.Statement.{statement}
 use Rattle.choice.proofs.next.Tie as tie

@@ -1,7 +1,7 @@
 -- `claspwillow::compile_in` meets its contract: work memory has its length or not. Assumes nothing.
 use borrow.Author.Needs.{needs}
 use mathlib.Core.Path.{refl}
-use Rattle.compiling.specs.Answers.{refuses}
+use Rattle.compile.specs.Answers.{refuses}
 use Rattle.claspwillow.proofs.Outcomes.{retold, fits, bad-work}
 use Rattle.claspwillow.proofs.compile_in.Statement.{statement}
 use Rattle.claspwillow.proofs.compile_in.Tie as tie

@@ -1,7 +1,7 @@
 -- `claspwillow::compile_numbered` meets its contract: the context by its number. Assumes nothing.
 use borrow.Author.Needs.{needs}
 use mathlib.Core.Path.{refl}
-use Rattle.compiling.specs.Answers.{refuses}
+use Rattle.compile.specs.Answers.{refuses}
 use Rattle.claspwillow.proofs.Outcomes.{retold, segwit, tap, bad-context}
 use Rattle.claspwillow.proofs.compile_numbered.Statement.{statement}
 use Rattle.claspwillow.proofs.compile_numbered.Tie as tie

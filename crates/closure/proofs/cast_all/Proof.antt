@@ -2,7 +2,7 @@
 use Prim.Native.Nat.{_-_, _≤_}
 use native.Mathlib.Omega.{arith}
 use borrow.Author.Needs.{needs}
-use Rattle.compilation.specs.Tables.{probs}
+use Rattle.definition.specs.Tables.{probs}
 use Rattle.table.proofs.Kept.{extends-trans}
 use Rattle.closure.proofs.Extending.{still-long, still-below}
 use Rattle.closure.proofs.Casting.{Casting, casting-begins, casting-ends, casting-refused, casting-goes-on}

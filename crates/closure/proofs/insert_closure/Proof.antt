@@ -4,7 +4,7 @@ use mathlib.Core.Logic.{⊎-elim, inl, inr}
 use Prim.Native.Nat.{_-_}
 use native.Mathlib.Omega.{arith}
 use borrow.Author.Needs.{needs}
-use Rattle.compilation.specs.Tables.{probs}
+use Rattle.definition.specs.Tables.{probs}
 use Rattle.table.proofs.Kept.{extends-trans}
 use Rattle.closure.proofs.Extending.{still-long}
 use Rattle.closure.proofs.Closing.{Closing, insert-refused, closure-begins, closing-begins, closing-ends}

@@ -1,7 +1,7 @@
 -- `closure::offer_cast` meets its contract: a cast that gives a candidate is offered, and any other leaves all as it is. Assumes nothing.
 use mathlib.Core.Path.{refl}
 use borrow.Author.Needs.{needs}
-use Rattle.compilation.specs.Tables.{probs}
+use Rattle.definition.specs.Tables.{probs}
 use Rattle.nodes.proofs.Casts.{cast-fresh}
 use Rattle.closure.proofs.Extending.{still-long}
 use Rattle.closure.proofs.Offering.{node-small, cast-told, nothing-offered, entered-offered, turned-offered, refused-offered}

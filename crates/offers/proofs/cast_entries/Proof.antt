@@ -4,9 +4,9 @@ use Prim.Native.Nat.{_-_, _≤_}
 use native.Mathlib.Omega.{arith}
 use borrow.Author.Needs.{needs}
 use lib.ListN.{length}
-use Rattle.compilation.specs.Tables.{probs}
-use Rattle.remembered.specs.Slots.{slotAt}
-use Rattle.remembered.proofs.Tables.{entries-few}
+use Rattle.definition.specs.Tables.{probs}
+use Rattle.cache.specs.Slots.{slotAt}
+use Rattle.cache.proofs.Tables.{entries-few}
 use Rattle.table.proofs.Kept.{extends-trans}
 use Rattle.closure.proofs.Extending.{still-long}
 use Rattle.offers.proofs.Entries.{still-there, still-kept, still-entries, entry-was, entry-below}

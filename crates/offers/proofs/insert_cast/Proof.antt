@@ -2,7 +2,7 @@
 -- Assumes nothing.
 use mathlib.Core.Path.{refl}
 use borrow.Author.Needs.{needs}
-use Rattle.compilation.specs.Tables.{probs}
+use Rattle.definition.specs.Tables.{probs}
 use Rattle.nodes.proofs.Casts.{cast-fresh}
 use Rattle.closure.proofs.Extending.{still-long}
 use Rattle.closure.proofs.Offering.{node-small, cast-told}

@@ -1,6 +1,6 @@
 -- `offers::leaf_of` meets its contract: each kind makes its leaf. Assumes nothing.
 use borrow.Author.Needs.{needs}
-use Rattle.terms.specs.Leaves.{After, Older, Sha256, Hash256, Ripemd160, Hash160}
+use Rattle.contexts.specs.Leaves.{After, Older, Sha256, Hash256, Ripemd160, Hash160}
 use Rattle.offers.proofs.Leaves.{true-leaf, lock-leaf, hash-leaf, false-leaf}
 use Rattle.offers.proofs.leaf_of.Statement.{statement}
 use Rattle.offers.proofs.leaf_of.Tie as tie

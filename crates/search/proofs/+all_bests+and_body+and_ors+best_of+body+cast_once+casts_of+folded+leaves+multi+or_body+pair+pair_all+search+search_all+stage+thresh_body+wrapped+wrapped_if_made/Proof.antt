@@ -8,12 +8,12 @@ use lib.ListN.{length-set, length, take}
 use Prim.Native.Nat.{ℕ, _<_, _-_, _≤_}
 use borrow.Fn.Kinds.{In}
 use borrow.Fn.PlainCycle.{Measures, is, falls, and}
-use Rattle.compilation.specs.Tables.{probs}
-use Rattle.laws.specs.Bodies.{againIn}
+use Rattle.definition.specs.Tables.{probs}
+use Rattle.definition_laws.specs.Bodies.{againIn}
 use Rattle.policies.specs.Array.{policyAt}
 use Rattle.nodes.proofs.Leaves.{pk-h-offers, pk-k-offers}
 use Rattle.policies.proofs.Forms.{two-and, two-or}
-use Rattle.compilation.specs.Search as definition
+use Rattle.definition.specs.Search as definition
 use Rattle.search.proofs.Asking.{going-more, going-again}
 use Rattle.search.proofs.Wrapping.{ready-long, stops, doing-next, doing-going, made-wrapped, passed-over}
 use Rattle.search.proofs.Wrapping.{missing-refused, CastsOn, wrapped-doing, wrapped-plain, wrapped-casts}
@@ -118,9 +118,9 @@ use Rattle.pairing.proofs.made.Reads as made-reads
 use Rattle.policies.proofs.child.Reads as child-reads
 use Rattle.policies.proofs.folded_of.Reads as folded-of-reads
 use Rattle.policies.proofs.head_of.Reads as head-of-reads
-use Rattle.recall.proofs.recall.Reads as recall-reads
-use Rattle.recall.proofs.remember.Reads as remember-reads
-use Rattle.recall.proofs.table_of.Reads as table-of-reads
+use Rattle.search_state.proofs.recall.Reads as recall-reads
+use Rattle.search_state.proofs.remember.Reads as remember-reads
+use Rattle.search_state.proofs.table_of.Reads as table-of-reads
 use Rattle.search.proofs.child_dissat.Reads as child-dissat-reads
 use Rattle.stages.proofs.and_asks.Reads as and-asks-reads
 use Rattle.stages.proofs.and_or_asks.Reads as and-or-asks-reads

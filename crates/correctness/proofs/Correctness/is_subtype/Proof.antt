@@ -1,4 +1,4 @@
-use Rattle.terms.proofs.Bools.{or-implies}
+use Rattle.contexts.proofs.Bools.{or-implies}
 use Rattle.correctness.proofs.Correctness.is_subtype.Statement.{statement}
 use Rattle.correctness.proofs.Correctness.is_subtype.Tie as tie
 

@@ -1,4 +1,0 @@
-pub mod Reading
-pub mod Copying
-pub mod Taking
-pub mod Telling

@@ -1,0 +1,190 @@
+-- The numbers that stand in a record, by its kind, and those of the tree: entries of the leaf that a record makes. Assumes nothing.
+use Prim.Native.Nat.{ℕ, suc, _+_, _-_, _*_, _≤_, _<_}
+use mathlib.Core.Bool.{Bool, true, false, _&&_, cond}
+use mathlib.Core.List.{List, [], _∷_}
+use mathlib.Core.Option.{Option, none, some}
+use mathlib.Core.Path.{_≡_, refl, sym, ap, _∙_}
+use native.Mathlib.Nat.{mul-le-mul-left}
+use native.Mathlib.Omega.{arith}
+use borrow.Author.Tests.{eqb-true, eqb-false}
+use lib.Dec.{eqb}
+use Rattle.records.specs.Numbers.{u32, u32s}
+use Rattle.records.specs.RecordForm.{kindOf}
+use Rattle.contexts.specs.declared.Context.{Context}
+use Rattle.contexts.specs.Leaves.{After, Older, Sha256, Hash256, Ripemd160, Hash160}
+use Rattle.trees.specs.Fragment.{Fragment, False, True, PkK, PkH, Lock, Hash}
+use Rattle.trees.specs.Tree.{_is_, find}
+use Rattle.script_machine.specs.Numbers.{Bytes}
+use Rattle.script_bytes.specs.Tables.{Tables, tables, hasKey, hasKeyHash, hasHash}
+use Rattle.script_bytes.specs.ScriptOf.{hasKeys, hasEntries}
+use Rattle.script_bytes.specs.Rows.{Row, recordAt, ownEntries, entriesAt}
+use Rattle.script_bytes.proofs.Entries.{own-none}
+use Rattle.script_leaves.specs.Laying.{onlyKeys}
+use Rattle.script_leaves.specs.Leaves.{orElse, keysIn, multiOf, multiAOf, numbered, leafOf}
+use Rattle.script_leaves.proofs.Leaves as leaf
+use Rattle.script_leaves.proofs.Keys.{keysFrom}
+use Rattle.script_entry.specs.Nodes.{nodeOf}
+use Rattle.script_entry.proofs.Nodes.{told, leaf-here, parent-kind}
+
+-- ---- the leaf that a record makes, kind by kind
+
+module _ (P : Fragment → Type 0) where
+  either : (b : Bool) (x : Fragment) (rest : Option Fragment) (other : Fragment) → (b ≡ true → P x) → P (orElse other rest)
+      → P (orElse other (cond b (some x) rest))
+  either true x rest other p q = p refl
+  either false x rest other p q = q
+
+  by-number : (kind n : ℕ) → P False → P True → (eqb kind 34 ≡ true → P (PkK n)) → (eqb kind 35 ≡ true → P (PkH n))
+      → P (Lock After n) → P (Lock Older n) → (eqb kind 38 ≡ true → P (Hash Sha256 n)) → (eqb kind 39 ≡ true → P (Hash Hash256 n))
+      → (eqb kind 40 ≡ true → P (Hash Ripemd160 n)) → (eqb kind 41 ≡ true → P (Hash Hash160 n)) → P (numbered kind n)
+  unfolding numbered find
+  by-number kind n zero-is one-is key keyHash after older sha256 hash256 ripemd160 hash160 =
+      either (eqb kind 33) True _ False (λ _. one-is)
+      (either (eqb kind 34) (PkK n) _ False key
+      (either (eqb kind 35) (PkH n) _ False keyHash
+      (either (eqb kind 36) (Lock After n) _ False (λ _. after)
+      (either (eqb kind 37) (Lock Older n) _ False (λ _. older)
+      (either (eqb kind 38) (Hash Sha256 n) _ False sha256
+      (either (eqb kind 39) (Hash Hash256 n) _ False hash256
+      (either (eqb kind 40) (Hash Ripemd160 n) _ False ripemd160
+      (either (eqb kind 41) (Hash Hash160 n) none False hash160 zero-is))))))))
+
+  by-leaf : (bytes : Bytes) → (eqb (kindOf bytes) 57 ≡ true → P (multiOf bytes)) → (eqb (kindOf bytes) 58 ≡ true → P (multiAOf bytes))
+      → P (numbered (kindOf bytes) (u32 bytes 4)) → P (leafOf bytes)
+  unfolding leafOf find
+  by-leaf bytes multi multiA other =
+      either (eqb (kindOf bytes) 57) (multiOf bytes) _ (numbered (kindOf bytes) (u32 bytes 4)) multi
+      (either (eqb (kindOf bytes) 58) (multiAOf bytes) none (numbered (kindOf bytes) (u32 bytes 4)) multiA other)
+
+module _ (c : Context) (t : Tables) (bytes : Bytes) where
+  abbrev Same : Fragment → Type 0
+  Same f = ownEntries c t f ≡ hasEntries c t f
+
+  abbrev Has : Fragment → Type 0
+  Has f = true ≡ hasEntries c t f
+
+  -- a leaf's own numbers are all its numbers
+  own-leaf : ownEntries c t (leafOf bytes) ≡ hasEntries c t (leafOf bytes)
+  unfolding ownEntries hasEntries
+  own-leaf =
+      by-leaf Same bytes (λ _. refl) (λ _. refl)
+      (by-number Same (kindOf bytes) (u32 bytes 4) refl refl (λ _. refl) (λ _. refl) refl refl (λ _. refl) (λ _. refl) (λ _. refl) (λ _. refl))
+
+  no-leaf : 42 ≤ kindOf bytes → kindOf bytes ≤ 56 → leafOf bytes ≡ False
+  no-leaf l h =
+      leaf.is-numbered bytes (λ e. omega arith) (λ e. omega arith)
+      ∙ leaf.is-false (kindOf bytes) (u32 bytes 4) (λ e. omega arith) (λ e. omega arith) (λ e. omega arith) (λ e. omega arith)
+      (λ e. omega arith) (λ e. omega arith) (λ e. omega arith) (λ e. omega arith) (λ e. omega arith)
+
+  -- a record of a kind that holds no number of a table
+  pub other-entry : {kind : ℕ} → kind ≡ kindOf bytes → (kind ≡ 34 → ⊥) → (kind ≡ 35 → ⊥) → (kind ≡ 38 → ⊥) → (kind ≡ 39 → ⊥)
+      → (kind ≡ 40 → ⊥) → (kind ≡ 41 → ⊥) → (kind ≡ 57 → ⊥) → (kind ≡ 58 → ⊥) → true ≡ hasEntries c t (leafOf bytes)
+  unfolding hasEntries
+  other-entry {kind} known k34 k35 k38 k39 k40 k41 k57 k58 =
+      by-leaf Has bytes (λ e. absurd (k57 (known ∙ eqb-true (kindOf bytes) 57 e))) (λ e. absurd (k58 (known ∙ eqb-true (kindOf bytes) 58 e)))
+      (by-number Has (kindOf bytes) (u32 bytes 4) refl refl (λ e. absurd (k34 (known ∙ eqb-true (kindOf bytes) 34 e)))
+      (λ e. absurd (k35 (known ∙ eqb-true (kindOf bytes) 35 e))) refl refl (λ e. absurd (k38 (known ∙ eqb-true (kindOf bytes) 38 e)))
+      (λ e. absurd (k39 (known ∙ eqb-true (kindOf bytes) 39 e))) (λ e. absurd (k40 (known ∙ eqb-true (kindOf bytes) 40 e)))
+      (λ e. absurd (k41 (known ∙ eqb-true (kindOf bytes) 41 e))))
+
+-- the entries of record i are those of its leaf
+pub entries-leaf : (c : Context) (t : Tables) {tree : List ℕ} {i : ℕ} → Row tree i → entriesAt c t tree i ≡ hasEntries c t (leafOf (recordAt tree i))
+unfolding hasEntries
+entries-leaf c t {tree} {i} row = by-count (eqb (nodeOf (recordAt tree i) .n) 0) refl
+  where
+    by-count : (b : Bool) → eqb (nodeOf (recordAt tree i) .n) 0 ≡ b → entriesAt c t tree i ≡ hasEntries c t (leafOf (recordAt tree i))
+    by-count true e =
+        ap (ownEntries c t) (sym (leaf-here row (eqb-true (nodeOf (recordAt tree i) .n) 0 e))) ∙ own-leaf c t (recordAt tree i)
+    by-count false e =
+        let range = parent-kind row (omega (arith, eqb-false (nodeOf (recordAt tree i) .n) 0 e)) in
+        own-none c t (told row) (λ k. omega arith) (λ k. omega arith) (λ l h. omega arith) (λ l. omega arith)
+        ∙ ap (hasEntries c t) (sym (no-leaf c t (recordAt tree i) (range .0) (range .1)))
+
+-- ---- by kind
+
+module _ (c : Context) (t : Tables) (bytes : Bytes) {kind : ℕ} (known : kind ≡ kindOf bytes) where
+  of-number : (k : ℕ) (f : ℕ → Fragment) → 32 ≤ k → k ≤ 41 → kind ≡ k → ((n : ℕ) → kindOf bytes ≡ k → numbered (kindOf bytes) n ≡ f n)
+      → hasEntries c t (f (u32 bytes 4)) ≡ hasEntries c t (leafOf bytes)
+  of-number k f l h e g =
+      let same : kindOf bytes ≡ k = sym known ∙ e in
+      ap (hasEntries c t) (sym (leaf.is-numbered bytes (λ m. omega arith) (λ m. omega arith) ∙ g (u32 bytes 4) same))
+
+  pub key-entry : kind ≡ 34 → hasKey c t (u32 bytes 4) ≡ hasEntries c t (leafOf bytes)
+  unfolding hasEntries
+  key-entry e = of-number 34 PkK (omega arith) (omega arith) e (leaf.is-pk-k (kindOf bytes))
+
+  pub key-hash-entry : kind ≡ 35 → hasKeyHash t (u32 bytes 4) ≡ hasEntries c t (leafOf bytes)
+  unfolding hasEntries
+  key-hash-entry e = of-number 35 PkH (omega arith) (omega arith) e (leaf.is-pk-h (kindOf bytes))
+
+  pub sha256-entry : kind ≡ 38 → hasHash t Sha256 (u32 bytes 4) ≡ hasEntries c t (leafOf bytes)
+  unfolding hasEntries
+  sha256-entry e = of-number 38 (Hash Sha256) (omega arith) (omega arith) e (leaf.is-sha256 (kindOf bytes))
+
+  pub hash256-entry : kind ≡ 39 → hasHash t Hash256 (u32 bytes 4) ≡ hasEntries c t (leafOf bytes)
+  unfolding hasEntries
+  hash256-entry e = of-number 39 (Hash Hash256) (omega arith) (omega arith) e (leaf.is-hash256 (kindOf bytes))
+
+  pub ripemd160-entry : kind ≡ 40 → hasHash t Ripemd160 (u32 bytes 4) ≡ hasEntries c t (leafOf bytes)
+  unfolding hasEntries
+  ripemd160-entry e = of-number 40 (Hash Ripemd160) (omega arith) (omega arith) e (leaf.is-ripemd160 (kindOf bytes))
+
+  pub hash160-entry : kind ≡ 41 → hasHash t Hash160 (u32 bytes 4) ≡ hasEntries c t (leafOf bytes)
+  unfolding hasEntries
+  hash160-entry e = of-number 41 (Hash Hash160) (omega arith) (omega arith) e (leaf.is-hash160 (kindOf bytes))
+
+  pub multi-entries : kind ≡ 57 → hasKeys c t (keysIn bytes) ≡ hasEntries c t (leafOf bytes)
+  unfolding hasEntries
+  multi-entries e = ap (hasEntries c t) (sym (leaf.is-multi bytes (sym known ∙ e)))
+
+  pub multi-a-entries : kind ≡ 58 → hasKeys c t (keysIn bytes) ≡ hasEntries c t (leafOf bytes)
+  unfolding hasEntries
+  multi-a-entries e = ap (hasEntries c t) (sym (leaf.is-multi-a bytes (sym known ∙ e)))
+
+-- keys are looked up in the table of keys alone
+pub same-keys : (c : Context) (keys keyHashes hashes32 hashes20 : Bytes) (ns : List ℕ)
+    → hasKeys c (onlyKeys keys) ns ≡ hasKeys c (tables keys keyHashes hashes32 hashes20) ns
+unfolding hasKeys
+same-keys c keys keyHashes hashes32 hashes20 [] = refl
+same-keys c keys keyHashes hashes32 hashes20 (i ∷ ns) = rw (same-keys c keys keyHashes hashes32 hashes20 ns)
+
+-- ---- the keys of a record, from the j-th on
+
+-- those before are all there, and the others are still to look for
+abbrev pub KeysToCome : (c : Context) (t : Tables) (bytes : Bytes) (count j : ℕ) (all : Bool) → Type 0
+KeysToCome c t bytes count j all = all && hasKeys c t (keysFrom bytes count j) ≡ hasKeys c t (u32s bytes 8 count)
+
+and-assoc : (a b c : Bool) → (a && b) && c ≡ a && (b && c)
+and-assoc true b c = refl
+and-assoc false b c = refl
+
+and-true : (a : Bool) → a && true ≡ a
+and-true true = refl
+and-true false = refl
+
+module _ (c : Context) (t : Tables) (bytes : Bytes) (count : ℕ) where
+  pub keys-begin : KeysToCome c t bytes count 0 true
+  keys-begin =
+      let e : count - 0 ≡ count = omega arith in
+      let at : 8 + 4 * 0 ≡ 8 = omega arith in
+      rw (e, at)
+
+  pub keys-more : (j i : ℕ) (all : Bool) {next has : Bool} → j < count → i ≡ u32 bytes (8 + 4 * j) → has ≡ hasKey c t i → next ≡ all && has
+      → KeysToCome c t bytes count j all → KeysToCome c t bytes count (j + 1) next
+  unfolding u32s hasKeys
+  keys-more j i all h e k f so-far =
+      let n : count - j ≡ suc (count - (j + 1)) = omega arith in
+      let at : 8 + 4 * (j + 1) ≡ 8 + 4 * j + 4 = omega arith in
+      rw (f, k, e, at, and-assoc) (rw n at so-far)
+
+  pub keys-done : (j : ℕ) (all : Bool) → count ≤ j → KeysToCome c t bytes count j all → all ≡ hasKeys c t (u32s bytes 8 count)
+  unfolding u32s hasKeys
+  keys-done j all h so-far =
+      let n : count - j ≡ 0 = omega arith in
+      sym (and-true all) ∙ (rw n at so-far)
+
+-- the end of an entry is a number of 64 bits
+pub entry-end : (i size : ℕ) → i < 4294967296 → size ≤ 75 → (i + 1) * size < 18446744073709551616
+entry-end i size h k =
+    let most : (i + 1) * size ≤ (i + 1) * 75 = mul-le-mul-left (i + 1) k in
+    omega arith
