@@ -10,4 +10,5 @@ pub mod Reading
 pub mod Compiling
 pub mod Passing
 pub mod Steps
+pub mod NothingBetter
 pub mod Bodies

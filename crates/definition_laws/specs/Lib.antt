@@ -2,3 +2,4 @@
 pub mod FormedPolicy
 pub mod Laws
 pub mod Bodies
+pub mod NothingBetter

@@ -5,3 +5,4 @@ pub mod Prices
 pub mod Bridges
 pub mod Kept
 pub mod Offering
+pub mod NothingBetter
