@@ -1,6 +1,6 @@
 -- Laws of bools: what follows from both and from one that implies another, and a bool as a digit. Assumes nothing.
 use mathlib.Core.Path.{_≡_, refl, ap}
-use mathlib.Core.Bool.{Bool, true, false, cond, not, _&&_, _||_}
+use mathlib.Core.Bool.{Bool, true, false, cond, _&&_}
 use Prim.Native.Nat.{_<_}
 use native.Mathlib.Omega.{arith}
 use Rattle.contexts.specs.Bools.{implies, boolRank, boolOf}
@@ -19,10 +19,6 @@ and-i a b h k = rw (h, k)
 pub modus : (a b : Bool) → implies a b ≡ true → a ≡ true → b ≡ true
 modus true b h k = h
 modus false b h k = ap (λ (x : Bool). cond x true b) k
-
-pub or-implies : (a b : Bool) → not a || b ≡ implies a b
-or-implies true b = refl
-or-implies false b = refl
 
 pub bool-lt : (b : Bool) → boolRank b < 2
 bool-lt false = omega arith

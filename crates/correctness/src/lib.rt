@@ -1,8 +1,7 @@
-// The correctness properties of a fragment: its base, z o n, d and u. The rules are those of specs/CorrectnessRules.antt, the subtype
-// question that of specs/Subtype.antt, the digits of a packed type those of specs/Digits.antt. Bools are joined by & and |: both sides are at hand, and there is nothing to skip.
+// The correctness properties of a fragment: its base, z o n, d and u. The rules are those of specs/CorrectnessRules.antt, the digits of a
+// packed type those of specs/Digits.antt. Bools are joined by & and |: both sides are at hand, and there is nothing to skip.
 ghost use mathlib.Core.Path.{_≡_};
 ghost use Rattle.correctness.specs.Letters.{isB, isK, isV, isW, baseEq, isZero, isOne, isNonZero};
-ghost use Rattle.correctness.specs.Subtype.{inputSub, corrSub};
 ghost use Rattle.correctness.specs.CorrectnessRules.{correctness, okIf, TRUE, FALSE, pkK, pkH, multi, multiA, hash, time};
 ghost use Rattle.correctness.specs.CorrectnessRules.{castAlt, castSwap, castCheck, castDupif, castVerify, castNonzero};
 ghost use Rattle.correctness.specs.CorrectnessRules.{castZeronotequal, castTrue, castOrIFalse};
@@ -112,19 +111,6 @@ impl Input {
         match self {
             Input::OneNonZero | Input::AnyNonZero => true,
             _ => false,
-        }
-    }
-
-    // Whether this input is a subtype of the other: the same, or what the other asks and more.
-    pub fn is_subtype(self, other: Input) -> bool
-        ensures { λ r. ⌜ r ≡ inputSub self other ⌝ }
-    {
-        match other {
-            Input::Zero => self.is_zero(),
-            Input::One => self.is_one(),
-            Input::Any => true,
-            Input::OneNonZero => self.is_one() & self.is_nonzero(),
-            Input::AnyNonZero => self.is_nonzero(),
         }
     }
 
@@ -288,20 +274,6 @@ impl Correctness {
             dissatisfiable: true,
             unit: true,
         }
-    }
-
-    // Whether this is a subtype of the other: the same base, and each property that the other has.
-    pub fn is_subtype(self, other: Self) -> bool
-        ensures { λ r. ⌜ r ≡ corrSub self other ⌝ }
-    {
-        let base = self.base;
-        let other_base = other.base;
-        let input = self.input;
-        let other_input = other.input;
-        let stands = base.same(other_base) & input.is_subtype(other_input);
-        let d = !other.dissatisfiable | self.dissatisfiable;
-        let u = !other.unit | self.unit;
-        stands & (d & u)
     }
 
     // The correctness of pk_k.

@@ -1,8 +1,7 @@
-// The malleability properties of a fragment: f or e, s and m. The rules are those of specs/MalleabilityRules.antt, the subtype question that
-// of specs/Subtype.antt, the digits of a packed type those of specs/Digits.antt. Bools are joined by & and |: both sides are at hand, and there is nothing to skip.
+// The malleability properties of a fragment: f or e, s and m. The rules are those of specs/MalleabilityRules.antt, the digits of a packed
+// type those of specs/Digits.antt. Bools are joined by & and |: both sides are at hand, and there is nothing to skip.
 ghost use mathlib.Core.Path.{_≡_};
 ghost use Rattle.malleability.specs.Letters.{isNone, isUnique};
-ghost use Rattle.malleability.specs.Subtype.{dissatSub, mallSub};
 ghost use Rattle.malleability.specs.MalleabilityRules.{TRUE, FALSE, pkK, pkH, multi, multiA, hash, time};
 ghost use Rattle.malleability.specs.MalleabilityRules.{castAlt, castSwap, castCheck, castDupif, castVerify, castNonzero};
 ghost use Rattle.malleability.specs.MalleabilityRules.{castZeronotequal, castTrue, castOrIFalse};
@@ -36,17 +35,6 @@ impl Dissat {
         match self {
             Dissat::Unique => true,
             _ => false,
-        }
-    }
-
-    // Whether this is a subtype of the other: the same, or the other is Unknown.
-    pub fn is_subtype(self, other: Dissat) -> bool
-        ensures { λ r. ⌜ r ≡ dissatSub self other ⌝ }
-    {
-        match other {
-            Dissat::None => self.is_none(),
-            Dissat::Unique => self.is_unique(),
-            Dissat::Unknown => true,
         }
     }
 
@@ -149,18 +137,6 @@ impl Malleability {
             safe: true,
             non_malleable: true,
         }
-    }
-
-    // Whether this is a subtype of the other: it has each property that the other has.
-    pub fn is_subtype(self, other: Self) -> bool
-        ensures { λ r. ⌜ r ≡ mallSub self other ⌝ }
-    {
-        let dissat = self.dissat;
-        let other_dissat = other.dissat;
-        let x = dissat.is_subtype(other_dissat);
-        let s = !other.safe | self.safe;
-        let m = !other.non_malleable | self.non_malleable;
-        x & (s & m)
     }
 
     // The malleability of pk_k.

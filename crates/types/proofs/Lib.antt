@@ -1,3 +1,4 @@
 pub mod Threshold
 pub mod Finite
 pub mod PackLaws
+pub mod MaskLaws

@@ -21,13 +21,13 @@ pub bool-byte : (b : Bool) → boolByte b ≡ boolRank b
 bool-byte false = refl
 bool-byte true = refl
 
--- the digits of a type, as the code comes by them: the ranks b, i and x, and bools cast to numbers
-pub record Digits (t : «Type») (b i x : ℕ) : Type 0 where
-  pub below-b : b < 4
-  pub below-i : i < 5
+-- the parts of a type, as the code comes by them: numbers b, i and x for base, input and dissat, below kb, ki and kx, and bools cast to numbers
+pub record Digits (t : «Type») (kb ki kx b i x : ℕ) : Type 0 where
+  pub below-b : b < kb
+  pub below-i : i < ki
   pub below-d : boolByte (t .corr .dissatisfiable) < 2
   pub below-u : boolByte (t .corr .unit) < 2
-  pub below-x : x < 3
+  pub below-x : x < kx
   pub below-s : boolByte (t .mall .safe) < 2
   pub below-m : boolByte (t .mall .«non_malleable») < 2
 
@@ -35,14 +35,14 @@ byte-lt : (b : Bool) → boolByte b < 2
 byte-lt false = omega arith
 byte-lt true = omega arith
 
-pub digits : (t : «Type») (b i x : ℕ) → b ≡ baseRank (t .corr .base) → i ≡ inputRank (t .corr .input) → x ≡ dissatRank (t .mall .dissat) → Digits t b i x
-digits t b i x hb hi hx =
+pub digits : (t : «Type») {kb ki kx b' i' x' : ℕ} (b i x : ℕ) → b' < kb → i' < ki → x' < kx → b ≡ b' → i ≡ i' → x ≡ x' → Digits t kb ki kx b i x
+digits t b i x lb li lx hb hi hx =
     record {
-      below-b = omega (arith, hb, base-lt (t .corr .base));
-      below-i = omega (arith, hi, input-lt (t .corr .input));
+      below-b = omega (arith, hb, lb);
+      below-i = omega (arith, hi, li);
       below-d = byte-lt (t .corr .dissatisfiable);
       below-u = byte-lt (t .corr .unit);
-      below-x = omega (arith, hx, dissat-lt (t .mall .dissat));
+      below-x = omega (arith, hx, lx);
       below-s = byte-lt (t .mall .safe);
       below-m = byte-lt (t .mall .«non_malleable»);
     }

@@ -1,7 +1,6 @@
 // The type of a Miniscript fragment: its rules, from types/mod.rs, the question whether one type is a subtype of another, and the derived
-// order of types. The contracts cite specs/TypeRules.antt, specs/Subtype.antt and specs/TypeOrder.antt.
+// order of types. The contracts cite specs/TypeRules.antt, specs/Subtype.antt, specs/Mask.antt and specs/TypeOrder.antt.
 ghost use mathlib.Core.Path.{_≡_};
-ghost use Rattle.types.specs.Subtype.{typeSub};
 ghost use Rattle.types.specs.TypeRules.{typed, TRUE, FALSE, pkK, pkH, multi, multiA, hash, time};
 ghost use Rattle.types.specs.TypeRules.{castAlt, castSwap, castCheck, castDupif, castVerify, castNonzero};
 ghost use Rattle.types.specs.TypeRules.{castZeronotequal, castTrue, castUnlikely, castLikely};
@@ -14,6 +13,7 @@ use malleability::Malleability;
 use malleability::MalleabilitySoFar;
 
 pub mod order;
+pub mod subtype;
 
 // The type of a fragment: its correctness and its malleability properties.
 pub struct Type {
@@ -73,13 +73,6 @@ impl Type {
         let corr = Correctness::of_false();
         let mall = Malleability::of_false();
         Type { corr, mall }
-    }
-
-    // Whether this is a subtype of the other: it may stand wherever the other may.
-    pub fn is_subtype(self, other: Self) -> bool
-        ensures { λ r. ⌜ r ≡ typeSub self other ⌝ }
-    {
-        self.corr.is_subtype(other.corr) & self.mall.is_subtype(other.mall)
     }
 
     // The type of pk_k.

@@ -39,12 +39,15 @@ cast-m c = tt
 
 -- what the sum is made of
 abbrev read : (c : tie.After-struct-known4)
-    → Digits (c .before .before .before .before .before .before .before .before .before .args .self) (c .before .before .before .before .before .before .rank .result)
+    → Digits (c .before .before .before .before .before .before .before .before .before .args .self) 4 5 3
+    (c .before .before .before .before .before .before .rank .result)
     (c .before .before .before .before .before .rank2 .result) (c .before .before .rank3 .result)
 read c =
     let third = c .before .before in
     let second = third .before .before .before in
-    digits (second .before .before .before .before .args .self) (second .before .rank .result) (second .rank2 .result) (third .rank3 .result)
+    let self = second .before .before .before .before .args .self in
+    digits self (second .before .rank .result) (second .rank2 .result) (third .rank3 .result)
+    (base-lt (self .corr .base)) (input-lt (self .corr .input)) (dissat-lt (self .mall .dissat))
     (second .before .rank .ensures) (second .rank2 .ensures) (third .rank3 .ensures)
 
 mul-result : tie.Need-mul-result
