@@ -1,5 +1,6 @@
 -- Laws of the definition of compile, from the bottom up; and the definition case by case, for proofs that keep it shut.
 pub mod SamePolicies
+pub mod Believing
 pub mod Typed
 pub mod Keys
 pub mod Sorting

@@ -3,3 +3,4 @@ pub mod FormedPolicy
 pub mod Laws
 pub mod Bodies
 pub mod NothingBetter
+pub mod Believing
