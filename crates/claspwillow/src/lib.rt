@@ -1,10 +1,12 @@
 // The public entries of Claspwillow, exported to C. None asks anything of its caller.
 //
 // Each entry has a promise in specs/Promises.antt, which its contract cites; proofs/Determined.antt shows that any two outcomes that a
-// promise allows are equal. The parts of compile's entry cite specs/Results.antt.
+// promise allows are equal, and proofs/CheckLaws.antt what the check tells to the entries above. The parts of compile's entry cite specs/Results.antt.
+ghost use mathlib.Core.Option.{some};
 ghost use mathlib.Core.Path.{_≡_};
 ghost use Rattle.memory.specs.Layout.{workWords};
 ghost use Rattle.trees.specs.Reading.{maxRecords};
+ghost use Rattle.trees.specs.TreeCheck.{contextOf};
 ghost use Rattle.trees.specs.Checked.{answerOf};
 ghost use Rattle.compile.specs.Answers.{Compiles};
 ghost use Rattle.claspwillow.specs.Results.{givenIn, numberIn, bytesIn, costIn, nodesIn};
@@ -73,6 +75,16 @@ pub extern "C" fn claspwillow_check_work() -> usize
     ensures { λ n. ⌜ n ≡ maxRecords ⌝ }
 {
     trees::MAX_RECORDS
+}
+
+// The context that has the number, where one has.
+pub fn context_of(context: u32) -> Context
+    ensures { λ c. ⌜ ((x : Context) → contextOf context ≡ some x → c ≡ x) ⌝ }
+{
+    if context == 0 {
+        return Context::Segwitv0;
+    }
+    Context::Tap
 }
 
 // Compiles in a context, where work memory has its one length.

@@ -7,7 +7,7 @@ use native.Mathlib.Omega.{arith}
 use borrow.Author.Tests.{ne-eqb, lt-ltb, le-ltb}
 use lib.Dec.{eqb}
 use lib.ListN.{length}
-use Rattle.trees.specs.WorkMemory.{arity}
+use Rattle.records.specs.Shapes.{arity}
 use Rattle.policies.specs.Heads.{headOf}
 use Rattle.policies.specs.Forms.{childrenOf}
 use Rattle.policies.specs.Array.{policyAt}

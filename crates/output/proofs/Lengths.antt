@@ -10,8 +10,8 @@ use lib.ListN.{length, length-append, length-map}
 use Rattle.records.specs.Numbers.{between}
 use Rattle.words.specs.Bytes.{bytesOf}
 use Rattle.words.proofs.Bytes.{length-bytes}
-use Rattle.trees.specs.WorkMemory.{arity}
-use Rattle.trees.proofs.ByKind.{arity-above}
+use Rattle.records.specs.Shapes.{arity}
+use Rattle.records.proofs.Arities.{arity-above}
 use Rattle.writing.specs.Writing.{Node, node, Nodes, nil, _▸_, inRow, kAndN, nodeOf, count, counts, owns, recordOf, written, writtenAll}
 use Rattle.policies.specs.Policy.{Policy}
 use Rattle.policies.specs.Forms.{numberOf, kOf, childrenOf}

@@ -9,7 +9,7 @@ use borrow.Author.Tests.{ltb-true}
 use lib.Dec.{ltb}
 use lib.ListN.{length}
 use Rattle.trees.specs.Fragment.{Fragment}
-use Rattle.trees.specs.WorkMemory.{arity}
+use Rattle.records.specs.Shapes.{arity}
 use Rattle.writing.specs.Writing.{Node, Nodes, nil, _▸_, nodeOf, count, counts, size}
 use Rattle.policies.specs.Heads.{headOf}
 use Rattle.policies.specs.Forms.{childrenOf}

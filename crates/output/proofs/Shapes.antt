@@ -13,7 +13,7 @@ use lib.ListN.{length, length-map, length-append}
 use Rattle.records.specs.Numbers.{between}
 use Rattle.trees.specs.Fragment.{Fragment, toList}
 use Rattle.trees.specs.Tree.{Line, find}
-use Rattle.trees.specs.WorkMemory.{arity}
+use Rattle.records.specs.Shapes.{arity}
 use Rattle.writing.specs.Writing.{Node, node, Nodes, nil, _▸_, leaf, inRow, kAndN, nodeOf, nodesOf}
 use Rattle.policies.specs.Forms.{numberOf, kOf, childrenOf}
 use Rattle.policies.proofs.Ranges.{Each, each}

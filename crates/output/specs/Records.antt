@@ -8,7 +8,7 @@ use lib.ListN.{length, take}
 use Rattle.words.specs.Bytes.{bytesOf}
 use Rattle.records.specs.Numbers.{between}
 use Rattle.trees.specs.Fragment.{Fragment}
-use Rattle.trees.specs.WorkMemory.{arity}
+use Rattle.records.specs.Shapes.{arity}
 use Rattle.writing.specs.Writing.{Nodes, nil, _▸_, inRow, kAndN, recordOf, nodeOf}
 use Rattle.policies.specs.Policy.{Policy}
 use Rattle.policies.specs.Forms.{numberOf, kOf, childrenOf}

@@ -8,7 +8,6 @@ ghost use Prim.Native.Nat.{_+_, _*_, _<_, _≤_};
 ghost use lib.ListN.{length, take};
 ghost use lib.Seq.{sets};
 ghost use Rattle.words.specs.Bytes.{bytesOf};
-ghost use Rattle.trees.specs.WorkMemory.{arity};
 ghost use Rattle.trees.specs.Reading.{maxRecords};
 ghost use Rattle.writing.specs.Writing.{inRow, kAndN, nodeOf};
 ghost use Rattle.writing.specs.WellFormed.{WellFormed};
@@ -69,19 +68,6 @@ fn kind_of(work: &[u64], e: u16) -> u16
     fragment_kind(x.kind)
 }
 
-// How many children a record of a kind has, n being a Thresh's.
-fn arity(kind: u16, n: usize) -> usize
-    ensures { λ r. ⌜ r ≡ arity kind n ⌝ }
-{
-    match kind {
-        55 => 3,
-        56 => n,
-        42..=48 => 1,
-        49..=54 => 2,
-        _ => 0,
-    }
-}
-
 // How many bytes of a record of a kind stand before its children, n being the number of children or keys.
 fn front_length(kind: u16, n: usize) -> usize
     requires { ⌜ n ≤ 16 ⌝ }
@@ -102,7 +88,7 @@ pub fn arity_of(pol: &[u64], work: &[u64], e: u16) -> usize
 {
     let x = node(work, e);
     let head = head_of(pol, x.first as usize);
-    arity(x.kind, head.count)
+    records::arity(x.kind, head.count)
 }
 
 // The number that node e holds for its child j.

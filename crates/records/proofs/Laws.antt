@@ -3,7 +3,7 @@ use mathlib.Core.Path.{_≡_, refl, ap, _∙_}
 use mathlib.Core.Bool.{Bool, true, false, _&&_}
 use mathlib.Core.List.{List, [], _∷_}
 use mathlib.Core.Option.{Option, none, some}
-use Prim.Native.Nat.{ℕ, _+_, _-_, _<_, _≤_}
+use Prim.Native.Nat.{ℕ, suc, _+_, _-_, _*_, _<_, _≤_}
 use native.Mathlib.Omega.{arith}
 use borrow.Author.Tests.{leb-true, le-leb, lt-leb}
 use lib.Dec.{leb, eqb}
@@ -11,7 +11,7 @@ use lib.ListN.{length, getD, drop, replicate, length-append, length-drop, length
 use Rattle.records.specs.Numbers.{u16, u32, u16s, u32s, between, maxLock, maxCount}
 use Rattle.records.specs.Shapes.{shapeOf, isPolicyKind, isFragmentKind}
 use Rattle.records.specs.Payloads.{Payload, nothing, number, children, weighted, threshold, keys}
-use Rattle.records.specs.Payloads.{when, thresholdFits, payloadOf, childrenOf}
+use Rattle.records.specs.Payloads.{keyAt, firstKeys, keysFrom, when, thresholdFits, payloadOf, childrenOf}
 use Rattle.records.specs.RecordForm.{whenWhole, recordLength, kindOf, payloadAs, onlyIf}
 use Rattle.records.specs.RecordForm.{recordPayload, policyPayload, fragmentPayload}
 use Rattle.records.specs.Answers.{lengthAnswer, shapeAnswer, padded, partsOf}
@@ -209,6 +209,31 @@ children-few Shape.Threshold s e =
     let is = is-threshold s e in
     rw is (threshold-bounds s (e ∙ ap some is) .2)
 children-few Shape.Keys s e = rw (is-keys s e) (omega arith)
+
+-- ---- the keys of a Multi or a MultiA, one after the other
+
+module _ (s : List ℕ) (n : ℕ) where
+  pub keys-first : keysFrom s n 0 ≡ firstKeys s n
+  keys-first =
+      let e : n - 0 ≡ n = omega arith in
+      let at : 8 + 4 * 0 ≡ 8 = omega arith in
+      rw (e, at)
+
+  pub keys-next : (j : ℕ) → j < n → keysFrom s n j ≡ keyAt s j ∷ keysFrom s n (j + 1)
+  unfolding u32s
+  keys-next j h =
+      let e : n - j ≡ suc (n - (j + 1)) = omega arith in
+      let at : 8 + 4 * (j + 1) ≡ 8 + 4 * j + 4 = omega arith in
+      rw (e, at)
+
+  pub keys-end : (j : ℕ) → n ≤ j → keysFrom s n j ≡ []
+  unfolding u32s
+  keys-end j h =
+      let e : n - j ≡ 0 = omega arith in
+      rw e
+
+  pub length-keys : length (firstKeys s n) ≡ n
+  length-keys = length-u32s s 8 n
 
 -- ---- the sixteen places
 

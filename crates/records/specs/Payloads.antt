@@ -3,7 +3,7 @@
 use mathlib.Core.Bool.{Bool, true, false, _&&_}
 use mathlib.Core.List.{List, [], _∷_}
 use mathlib.Core.Option.{Option, none, some}
-use Prim.Native.Nat.{ℕ, _+_, _*_}
+use Prim.Native.Nat.{ℕ, _+_, _*_, _-_}
 use lib.Dec.{eqb, leb}
 use lib.ListN.{length}
 use Rattle.records.specs.Numbers.{u16, u32, u16s, u32s, between, maxLock, maxCount}
@@ -18,6 +18,35 @@ pub data Payload : Type 0 where
   threshold : (k : ℕ) → (children : List ℕ) → Payload
   keys : (k : ℕ) → List ℕ → Payload
 
+-- ---- where the parts stand in the bytes of a whole record
+
+-- the number of a key, a hash or a lock
+abbrev pub numberIn : List ℕ → ℕ
+numberIn s = u32 s 4
+
+-- a threshold's k and n
+abbrev pub kIn : List ℕ → ℕ
+kIn s = u16 s 4
+
+abbrev pub countIn : List ℕ → ℕ
+countIn s = u16 s 6
+
+-- key number j of a Multi or a MultiA, counted from 0
+abbrev pub keyAt : List ℕ → (j : ℕ) → ℕ
+keyAt s j = u32 s (8 + 4 * j)
+
+-- its first n keys, those of them from number j on, and all of its keys
+abbrev pub firstKeys : List ℕ → (n : ℕ) → List ℕ
+firstKeys s n = u32s s 8 n
+
+abbrev pub keysFrom : List ℕ → (n j : ℕ) → List ℕ
+keysFrom s n j = u32s s (8 + 4 * j) (n - j)
+
+abbrev pub keysIn : List ℕ → List ℕ
+keysIn s = firstKeys s (countIn s)
+
+-- ---- the payload
+
 abbrev pub when : Bool → Payload → Option Payload
 when true p = some p
 when false p = none
@@ -25,7 +54,7 @@ when false p = none
 -- whether a record is k, n and then n numbers of so many bytes, with 1 ≤ k ≤ n ≤ 16
 abbrev pub thresholdFits : (width : ℕ) → List ℕ → Bool
 thresholdFits width s =
-    leb 1 (u16 s 4) && leb (u16 s 4) (u16 s 6) && leb (u16 s 6) maxCount && eqb (length s) (8 + width * u16 s 6)
+    leb 1 (kIn s) && leb (kIn s) (countIn s) && leb (countIn s) maxCount && eqb (length s) (8 + width * countIn s)
 
 abbrev pub childrenPayload : (count : ℕ) → List ℕ → Option Payload
 childrenPayload count s = when (eqb (length s) (4 + 2 * count)) (children (u16s s 4 count))
@@ -33,11 +62,11 @@ childrenPayload count s = when (eqb (length s) (4 + 2 * count)) (children (u16s 
 -- the payload of a whole record, if it is of the shape
 unfoldable pub payloadOf : Shape → List ℕ → Option Payload
 payloadOf Shape.Nothing s = when (eqb (length s) 4) nothing
-payloadOf Shape.Number s = when (eqb (length s) 8) (number (u32 s 4))
-payloadOf Shape.Lock s = when (eqb (length s) 8 && between 1 maxLock (u32 s 4)) (number (u32 s 4))
+payloadOf Shape.Number s = when (eqb (length s) 8) (number (numberIn s))
+payloadOf Shape.Lock s = when (eqb (length s) 8 && between 1 maxLock (numberIn s)) (number (numberIn s))
 payloadOf Shape.Weighted s = when (eqb (length s) 16) (weighted (u16 s 4) (u16 s 6) (u32 s 8) (u32 s 12))
-payloadOf Shape.Threshold s = when (thresholdFits 2 s) (threshold (u16 s 4) (u16s s 8 (u16 s 6)))
-payloadOf Shape.Keys s = when (thresholdFits 4 s) (keys (u16 s 4) (u32s s 8 (u16 s 6)))
+payloadOf Shape.Threshold s = when (thresholdFits 2 s) (threshold (kIn s) (u16s s 8 (countIn s)))
+payloadOf Shape.Keys s = when (thresholdFits 4 s) (keys (kIn s) (keysIn s))
 payloadOf Shape.OneChild s = childrenPayload 1 s
 payloadOf Shape.TwoChildren s = childrenPayload 2 s
 payloadOf Shape.ThreeChildren s = childrenPayload 3 s

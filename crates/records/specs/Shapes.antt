@@ -1,9 +1,10 @@
 -- Which kinds there are and what payload each has: document 01, "Records", its lists of kinds and its paragraph on payloads.
 -- Assumes nothing.
-use mathlib.Core.Bool.{Bool, true, false}
+use mathlib.Core.Bool.{Bool, true, false, cond}
 use mathlib.Core.List.{List, [], _∷_}
 use mathlib.Core.Option.{Option, none, some}
 use Prim.Native.Nat.{ℕ}
+use lib.Dec.{eqb}
 use Rattle.records.specs.Numbers.{between}
 use Rattle.records.specs.declared.Shape.{Shape}
 use Rattle.records.specs.declared.Shape.the-variants as Shape
@@ -51,3 +52,11 @@ isPolicyKind kind = between 1 12 kind
 
 abbrev pub isFragmentKind : ℕ → Bool
 isFragmentKind kind = between 32 58 kind
+
+-- how many children a fragment's record of a kind has, that has so many children or keys
+abbrev pub arity : (kind count : ℕ) → ℕ
+arity kind count =
+    cond (between 42 48 kind) 1
+    (cond (between 49 54 kind) 2
+    (cond (eqb kind 55) 3
+    (cond (eqb kind 56) count 0)))

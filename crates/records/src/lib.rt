@@ -1,16 +1,17 @@
 // One record: its whole length, its kind and the parts of its payload, read here for policies and for fragment trees alike.
 //
 // Its contracts cite `specs/RecordForm.antt`, `specs/Shapes.antt` and `specs/Payloads.antt`, and say them as answers by
-// `specs/Answers.antt`. The laws that crates above cite stand in `proofs/Laws.antt` and `proofs/KindRanges.antt`.
+// `specs/Answers.antt`. The laws that crates above cite stand in `proofs/Laws.antt`,
+// `proofs/KindRanges.antt` and `proofs/Arities.antt`.
 // A `bytes` that a function takes is the bytes of one whole record.
 ghost use mathlib.Core.Path.{_≡_};
 ghost use mathlib.Core.Option.{none, some};
 ghost use Prim.Native.Nat.{_≤_};
 ghost use lib.ListN.{drop};
 ghost use Rattle.records.specs.Numbers.{u16, u32, u16s, maxCount};
-ghost use Rattle.records.specs.Shapes.{shapeOf, isPolicyKind, isFragmentKind};
+ghost use Rattle.records.specs.Shapes.{shapeOf, isPolicyKind, isFragmentKind, arity};
 ghost use Rattle.records.specs.Payloads as Payload;
-ghost use Rattle.records.specs.Payloads.{payloadOf, childrenPayload, thresholdFits};
+ghost use Rattle.records.specs.Payloads.{payloadOf, childrenPayload, thresholdFits, numberIn, kIn, countIn, keyAt};
 ghost use Rattle.records.specs.RecordForm.{recordLength, kindOf, recordPayload, policyPayload, fragmentPayload};
 ghost use Rattle.records.specs.Answers.{lengthAnswer, shapeAnswer, padded, partsOf};
 use words::Read16;
@@ -150,6 +151,50 @@ pub fn is_fragment_kind(kind: u16) -> bool
     ensures { λ r. ⌜ r ≡ isFragmentKind kind ⌝ }
 {
     32 <= kind && kind <= 58
+}
+
+// How many children a fragment's record of this kind has, that has `count` children or keys.
+pub fn arity(kind: u16, count: usize) -> usize
+    ensures { λ n. ⌜ n ≡ arity kind count ⌝ }
+{
+    match kind {
+        // Alt, Swap, Check, DupIf, Verify, NonZero, ZeroNotEqual.
+        42..=48 => 1,
+        // AndB, AndV, OrB, OrD, OrC, OrI.
+        49..=54 => 2,
+        // AndOr, Thresh.
+        55 => 3,
+        56 => count,
+        _ => 0,
+    }
+}
+
+// The number of a record of a key, a hash or a lock; 0 where its bytes are not there.
+pub fn number_of(bytes: &[u8]) -> u32
+    ensures { λ r. ⌜ r ≡ numberIn (now (bytes .entry)) ⌝ }
+{
+    u32_or_zero(bytes, 4)
+}
+
+// The k of a record of a threshold; 0 where its bytes are not there.
+pub fn k_of(bytes: &[u8]) -> u16
+    ensures { λ r. ⌜ r ≡ kIn (now (bytes .entry)) ⌝ }
+{
+    u16_or_zero(bytes, 4)
+}
+
+// The n of a record of a threshold; 0 where its bytes are not there.
+pub fn count_of(bytes: &[u8]) -> u16
+    ensures { λ r. ⌜ r ≡ countIn (now (bytes .entry)) ⌝ }
+{
+    u16_or_zero(bytes, 6)
+}
+
+// Key number j of a record of a Multi or a MultiA; 0 where its bytes are not there.
+pub fn key_at(bytes: &[u8], j: u16) -> u32
+    ensures { λ r. ⌜ r ≡ keyAt (now (bytes .entry)) j ⌝ }
+{
+    u32_or_zero(bytes, 8 + 4 * (j as usize))
 }
 
 // The answer for a record that is not of the form.

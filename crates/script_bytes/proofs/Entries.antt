@@ -6,31 +6,35 @@ use mathlib.Core.Path.{_≡_, refl, sym, ap, subst, _∙_}
 use native.Mathlib.Omega.{arith}
 use borrow.Author.Tests.{ltb-true, ltb-false}
 use lib.Dec.{ltb}
-use Rattle.records.specs.Numbers.{u32s}
+use Rattle.records.specs.Payloads.{firstKeys}
 use Rattle.records.specs.declared.Parts.{Parts}
 use Rattle.records.proofs.Forms.{and-left, and-right}
 use Rattle.contexts.specs.declared.Context.{Context}
 use Rattle.trees.specs.Fragment.{Fragment}
 use Rattle.script_bytes.specs.Tables.{Tables, whole, hasKey, hasKeyHash}
 use Rattle.script_bytes.specs.ScriptOf.{hasKeys, hasEntries}
-use Rattle.script_bytes.specs.Rows.{fragmentAt, ownEntries, entriesAt, entriesBelow, Rows, Told}
-use Rattle.script_bytes.proofs.RowKinds as row
+use Rattle.walk.specs.TreeRecords.{fragmentAt, TreeRecords, Told}
+use Rattle.walk.specs.Folds.{overRecords}
+use Rattle.walk.proofs.KindLaws as row
+use Rattle.walk.proofs.Laws.{or-later}
+use Rattle.script_bytes.specs.Entries.{ownEntries, entriesAt, entriesBelow}
+use Rattle.script_bytes.proofs.OwnEntries.{of-records}
 
 module _ (c : Context) (t : Tables) (tree : List ℕ) where
   -- ---- the first records
 
   pub entries-start : entriesBelow c t tree 0 ≡ true
-  unfolding entriesBelow
+  unfolding overRecords
   entries-start = refl
 
   pub entries-next : (i : ℕ) → entriesBelow c t tree i ≡ true → entriesAt c t tree i ≡ true → entriesBelow c t tree (i + 1) ≡ true
-  unfolding entriesBelow
+  unfolding overRecords
   entries-next i e f =
       let m : i + 1 ≡ suc i = omega arith in
       rw (m, e, f)
 
   below-each : (n i : ℕ) → i < n → entriesBelow c t tree n ≡ true → entriesAt c t tree i ≡ true
-  unfolding entriesBelow
+  unfolding overRecords
   below-each zero i h e = absurd (omega arith)
   below-each (suc n) i h e =
       by-test (ltb i n) refl (and-right (entriesBelow c t tree n) (entriesAt c t tree n) e)
@@ -44,12 +48,12 @@ module _ (c : Context) (t : Tables) (tree : List ℕ) where
 
 -- ---- the records of a tree
 
-module _ (c : Context) (t : Tables) {tree : List ℕ} {f : Fragment} (r : Rows tree f) where
+module _ (c : Context) (t : Tables) {tree : List ℕ} {f : Fragment} (r : TreeRecords tree f) where
   pub entries-all : (i : ℕ) → i ≡ r .count → entriesBelow c t tree i ≡ true → hasEntries c t f ≡ true
-  entries-all i l e = r .entries c t ∙ ap (entriesBelow c t tree) (sym l) ∙ e
+  entries-all i l e = of-records c t r ∙ ap (entriesBelow c t tree) (sym l) ∙ e
 
   pub entries-each : (i : ℕ) → i < r .count → hasEntries c t f ≡ true → entriesAt c t tree i ≡ true
-  entries-each i h e = below-each c t tree (r .count) i h (sym (r .entries c t) ∙ e)
+  entries-each i h e = below-each c t tree (r .count) i h (sym (of-records c t r) ∙ e)
 
   pub entries-miss : (i : ℕ) → i < r .count → entriesAt c t tree i ≡ false → hasEntries c t f ≡ false
   entries-miss i h e = by-test (hasEntries c t f) refl
@@ -92,22 +96,14 @@ module _ (c : Context) (t : Tables) {tree : List ℕ} {i : ℕ} {bytes : List �
       by-kind (suc zero) e = own (row.is-hash160 told e)
       by-kind (suc (suc n)) e = absurd (omega arith)
 
-  pub own-keys : 57 ≤ kind → entriesAt c t tree i ≡ hasKeys c t (u32s bytes 8 (parts .count))
+  pub own-keys : 57 ≤ kind → entriesAt c t tree i ≡ hasKeys c t (firstKeys bytes (parts .count))
   unfolding ownEntries
   own-keys l = by-kind (kind - 57) (omega arith)
     where
-      by-kind : (n : ℕ) → kind ≡ 57 + n → entriesAt c t tree i ≡ hasKeys c t (u32s bytes 8 (parts .count))
+      by-kind : (n : ℕ) → kind ≡ 57 + n → entriesAt c t tree i ≡ hasKeys c t (firstKeys bytes (parts .count))
       by-kind zero e = own (row.is-multi told e)
       by-kind (suc zero) e = own (row.is-multi-a told e)
       by-kind (suc (suc n)) e = absurd (omega (arith, row.fragment-kind told .1))
-
-  -- this kind or a later one
-  or-later : (n : ℕ) {P : Type 0} → n ≤ kind → (kind ≡ n → P) → (suc n ≤ kind → P) → P
-  or-later n {P} l this later = by-test (ltb n kind) refl
-    where
-      by-test : (b : Bool) → ltb n kind ≡ b → P
-      by-test true b = later (ltb-true n kind b)
-      by-test false b = this (omega (arith, ltb-false n kind b))
 
   pub own-none : (kind ≡ 34 → ⊥) → (kind ≡ 35 → ⊥) → (38 ≤ kind → kind ≤ 41 → ⊥) → (57 ≤ kind → ⊥) → entriesAt c t tree i ≡ true
   unfolding ownEntries

@@ -9,8 +9,5 @@ pub mod Lengths
 pub mod Determined
 pub mod WorkedScripts
 -- the records of a tree
-pub mod ReadRecords
 pub mod OwnEntries
-pub mod Rows
-pub mod RowKinds
 pub mod Entries

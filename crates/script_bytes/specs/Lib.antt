@@ -9,4 +9,4 @@ pub mod Lengths
 pub mod WorkedScripts
 -- for the inner contracts
 pub mod Layout
-pub mod Rows
+pub mod Entries

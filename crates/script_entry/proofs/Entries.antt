@@ -1,5 +1,5 @@
 -- The numbers that stand in a record, by its kind, and those of the tree: entries of the leaf that a record makes. Assumes nothing.
-use Prim.Native.Nat.{ℕ, suc, _+_, _-_, _*_, _≤_, _<_}
+use Prim.Native.Nat.{ℕ, _+_, _*_, _≤_, _<_}
 use mathlib.Core.Bool.{Bool, true, false, _&&_, cond}
 use mathlib.Core.List.{List, [], _∷_}
 use mathlib.Core.Option.{Option, none, some}
@@ -8,8 +8,9 @@ use native.Mathlib.Nat.{mul-le-mul-left}
 use native.Mathlib.Omega.{arith}
 use borrow.Author.Tests.{eqb-true, eqb-false}
 use lib.Dec.{eqb}
-use Rattle.records.specs.Numbers.{u32, u32s}
+use Rattle.records.specs.Payloads.{numberIn, keyAt, firstKeys, keysFrom, keysIn}
 use Rattle.records.specs.RecordForm.{kindOf}
+use Rattle.records.proofs.Laws.{keys-first, keys-next, keys-end}
 use Rattle.contexts.specs.declared.Context.{Context}
 use Rattle.contexts.specs.Leaves.{After, Older, Sha256, Hash256, Ripemd160, Hash160}
 use Rattle.trees.specs.Fragment.{Fragment, False, True, PkK, PkH, Lock, Hash}
@@ -17,14 +18,15 @@ use Rattle.trees.specs.Tree.{_is_, find}
 use Rattle.script_machine.specs.Numbers.{Bytes}
 use Rattle.script_bytes.specs.Tables.{Tables, tables, hasKey, hasKeyHash, hasHash}
 use Rattle.script_bytes.specs.ScriptOf.{hasKeys, hasEntries}
-use Rattle.script_bytes.specs.Rows.{Row, recordAt, ownEntries, entriesAt}
+use Rattle.walk.specs.TreeRecords.{TreeRecord, recordAt}
+use Rattle.walk.specs.Nodes.{nodeOf}
+use Rattle.walk.proofs.Laws.{row-told, parent-kind}
+use Rattle.script_bytes.specs.Entries.{ownEntries, entriesAt}
 use Rattle.script_bytes.proofs.Entries.{own-none}
 use Rattle.script_leaves.specs.Laying.{onlyKeys}
-use Rattle.script_leaves.specs.Leaves.{orElse, keysIn, multiOf, multiAOf, numbered, leafOf}
+use Rattle.script_leaves.specs.Leaves.{orElse, multiOf, multiAOf, numbered, leafOf}
 use Rattle.script_leaves.proofs.Leaves as leaf
-use Rattle.script_leaves.proofs.Keys.{keysFrom}
-use Rattle.script_entry.specs.Nodes.{nodeOf}
-use Rattle.script_entry.proofs.Nodes.{told, leaf-here, parent-kind}
+use Rattle.script_entry.proofs.Nodes.{leaf-here}
 
 -- ---- the leaf that a record makes, kind by kind
 
@@ -50,11 +52,11 @@ module _ (P : Fragment → Type 0) where
       (either (eqb kind 41) (Hash Hash160 n) none False hash160 zero-is))))))))
 
   by-leaf : (bytes : Bytes) → (eqb (kindOf bytes) 57 ≡ true → P (multiOf bytes)) → (eqb (kindOf bytes) 58 ≡ true → P (multiAOf bytes))
-      → P (numbered (kindOf bytes) (u32 bytes 4)) → P (leafOf bytes)
+      → P (numbered (kindOf bytes) (numberIn bytes)) → P (leafOf bytes)
   unfolding leafOf find
   by-leaf bytes multi multiA other =
-      either (eqb (kindOf bytes) 57) (multiOf bytes) _ (numbered (kindOf bytes) (u32 bytes 4)) multi
-      (either (eqb (kindOf bytes) 58) (multiAOf bytes) none (numbered (kindOf bytes) (u32 bytes 4)) multiA other)
+      either (eqb (kindOf bytes) 57) (multiOf bytes) _ (numbered (kindOf bytes) (numberIn bytes)) multi
+      (either (eqb (kindOf bytes) 58) (multiAOf bytes) none (numbered (kindOf bytes) (numberIn bytes)) multiA other)
 
 module _ (c : Context) (t : Tables) (bytes : Bytes) where
   abbrev Same : Fragment → Type 0
@@ -68,12 +70,12 @@ module _ (c : Context) (t : Tables) (bytes : Bytes) where
   unfolding ownEntries hasEntries
   own-leaf =
       by-leaf Same bytes (λ _. refl) (λ _. refl)
-      (by-number Same (kindOf bytes) (u32 bytes 4) refl refl (λ _. refl) (λ _. refl) refl refl (λ _. refl) (λ _. refl) (λ _. refl) (λ _. refl))
+      (by-number Same (kindOf bytes) (numberIn bytes) refl refl (λ _. refl) (λ _. refl) refl refl (λ _. refl) (λ _. refl) (λ _. refl) (λ _. refl))
 
   no-leaf : 42 ≤ kindOf bytes → kindOf bytes ≤ 56 → leafOf bytes ≡ False
   no-leaf l h =
       leaf.is-numbered bytes (λ e. omega arith) (λ e. omega arith)
-      ∙ leaf.is-false (kindOf bytes) (u32 bytes 4) (λ e. omega arith) (λ e. omega arith) (λ e. omega arith) (λ e. omega arith)
+      ∙ leaf.is-false (kindOf bytes) (numberIn bytes) (λ e. omega arith) (λ e. omega arith) (λ e. omega arith) (λ e. omega arith)
       (λ e. omega arith) (λ e. omega arith) (λ e. omega arith) (λ e. omega arith) (λ e. omega arith)
 
   -- a record of a kind that holds no number of a table
@@ -82,13 +84,13 @@ module _ (c : Context) (t : Tables) (bytes : Bytes) where
   unfolding hasEntries
   other-entry {kind} known k34 k35 k38 k39 k40 k41 k57 k58 =
       by-leaf Has bytes (λ e. absurd (k57 (known ∙ eqb-true (kindOf bytes) 57 e))) (λ e. absurd (k58 (known ∙ eqb-true (kindOf bytes) 58 e)))
-      (by-number Has (kindOf bytes) (u32 bytes 4) refl refl (λ e. absurd (k34 (known ∙ eqb-true (kindOf bytes) 34 e)))
+      (by-number Has (kindOf bytes) (numberIn bytes) refl refl (λ e. absurd (k34 (known ∙ eqb-true (kindOf bytes) 34 e)))
       (λ e. absurd (k35 (known ∙ eqb-true (kindOf bytes) 35 e))) refl refl (λ e. absurd (k38 (known ∙ eqb-true (kindOf bytes) 38 e)))
       (λ e. absurd (k39 (known ∙ eqb-true (kindOf bytes) 39 e))) (λ e. absurd (k40 (known ∙ eqb-true (kindOf bytes) 40 e)))
       (λ e. absurd (k41 (known ∙ eqb-true (kindOf bytes) 41 e))))
 
 -- the entries of record i are those of its leaf
-pub entries-leaf : (c : Context) (t : Tables) {tree : List ℕ} {i : ℕ} → Row tree i → entriesAt c t tree i ≡ hasEntries c t (leafOf (recordAt tree i))
+pub entries-leaf : (c : Context) (t : Tables) {tree : List ℕ} {i : ℕ} → TreeRecord tree i → entriesAt c t tree i ≡ hasEntries c t (leafOf (recordAt tree i))
 unfolding hasEntries
 entries-leaf c t {tree} {i} row = by-count (eqb (nodeOf (recordAt tree i) .n) 0) refl
   where
@@ -97,39 +99,39 @@ entries-leaf c t {tree} {i} row = by-count (eqb (nodeOf (recordAt tree i) .n) 0)
         ap (ownEntries c t) (sym (leaf-here row (eqb-true (nodeOf (recordAt tree i) .n) 0 e))) ∙ own-leaf c t (recordAt tree i)
     by-count false e =
         let range = parent-kind row (omega (arith, eqb-false (nodeOf (recordAt tree i) .n) 0 e)) in
-        own-none c t (told row) (λ k. omega arith) (λ k. omega arith) (λ l h. omega arith) (λ l. omega arith)
+        own-none c t (row-told row) (λ k. omega arith) (λ k. omega arith) (λ l h. omega arith) (λ l. omega arith)
         ∙ ap (hasEntries c t) (sym (no-leaf c t (recordAt tree i) (range .0) (range .1)))
 
 -- ---- by kind
 
 module _ (c : Context) (t : Tables) (bytes : Bytes) {kind : ℕ} (known : kind ≡ kindOf bytes) where
   of-number : (k : ℕ) (f : ℕ → Fragment) → 32 ≤ k → k ≤ 41 → kind ≡ k → ((n : ℕ) → kindOf bytes ≡ k → numbered (kindOf bytes) n ≡ f n)
-      → hasEntries c t (f (u32 bytes 4)) ≡ hasEntries c t (leafOf bytes)
+      → hasEntries c t (f (numberIn bytes)) ≡ hasEntries c t (leafOf bytes)
   of-number k f l h e g =
       let same : kindOf bytes ≡ k = sym known ∙ e in
-      ap (hasEntries c t) (sym (leaf.is-numbered bytes (λ m. omega arith) (λ m. omega arith) ∙ g (u32 bytes 4) same))
+      ap (hasEntries c t) (sym (leaf.is-numbered bytes (λ m. omega arith) (λ m. omega arith) ∙ g (numberIn bytes) same))
 
-  pub key-entry : kind ≡ 34 → hasKey c t (u32 bytes 4) ≡ hasEntries c t (leafOf bytes)
+  pub key-entry : kind ≡ 34 → hasKey c t (numberIn bytes) ≡ hasEntries c t (leafOf bytes)
   unfolding hasEntries
   key-entry e = of-number 34 PkK (omega arith) (omega arith) e (leaf.is-pk-k (kindOf bytes))
 
-  pub key-hash-entry : kind ≡ 35 → hasKeyHash t (u32 bytes 4) ≡ hasEntries c t (leafOf bytes)
+  pub key-hash-entry : kind ≡ 35 → hasKeyHash t (numberIn bytes) ≡ hasEntries c t (leafOf bytes)
   unfolding hasEntries
   key-hash-entry e = of-number 35 PkH (omega arith) (omega arith) e (leaf.is-pk-h (kindOf bytes))
 
-  pub sha256-entry : kind ≡ 38 → hasHash t Sha256 (u32 bytes 4) ≡ hasEntries c t (leafOf bytes)
+  pub sha256-entry : kind ≡ 38 → hasHash t Sha256 (numberIn bytes) ≡ hasEntries c t (leafOf bytes)
   unfolding hasEntries
   sha256-entry e = of-number 38 (Hash Sha256) (omega arith) (omega arith) e (leaf.is-sha256 (kindOf bytes))
 
-  pub hash256-entry : kind ≡ 39 → hasHash t Hash256 (u32 bytes 4) ≡ hasEntries c t (leafOf bytes)
+  pub hash256-entry : kind ≡ 39 → hasHash t Hash256 (numberIn bytes) ≡ hasEntries c t (leafOf bytes)
   unfolding hasEntries
   hash256-entry e = of-number 39 (Hash Hash256) (omega arith) (omega arith) e (leaf.is-hash256 (kindOf bytes))
 
-  pub ripemd160-entry : kind ≡ 40 → hasHash t Ripemd160 (u32 bytes 4) ≡ hasEntries c t (leafOf bytes)
+  pub ripemd160-entry : kind ≡ 40 → hasHash t Ripemd160 (numberIn bytes) ≡ hasEntries c t (leafOf bytes)
   unfolding hasEntries
   ripemd160-entry e = of-number 40 (Hash Ripemd160) (omega arith) (omega arith) e (leaf.is-ripemd160 (kindOf bytes))
 
-  pub hash160-entry : kind ≡ 41 → hasHash t Hash160 (u32 bytes 4) ≡ hasEntries c t (leafOf bytes)
+  pub hash160-entry : kind ≡ 41 → hasHash t Hash160 (numberIn bytes) ≡ hasEntries c t (leafOf bytes)
   unfolding hasEntries
   hash160-entry e = of-number 41 (Hash Hash160) (omega arith) (omega arith) e (leaf.is-hash160 (kindOf bytes))
 
@@ -152,7 +154,7 @@ same-keys c keys keyHashes hashes32 hashes20 (i ∷ ns) = rw (same-keys c keys k
 
 -- those before are all there, and the others are still to look for
 abbrev pub KeysToCome : (c : Context) (t : Tables) (bytes : Bytes) (count j : ℕ) (all : Bool) → Type 0
-KeysToCome c t bytes count j all = all && hasKeys c t (keysFrom bytes count j) ≡ hasKeys c t (u32s bytes 8 count)
+KeysToCome c t bytes count j all = all && hasKeys c t (keysFrom bytes count j) ≡ hasKeys c t (firstKeys bytes count)
 
 and-assoc : (a b c : Bool) → (a && b) && c ≡ a && (b && c)
 and-assoc true b c = refl
@@ -164,24 +166,22 @@ and-true false = refl
 
 module _ (c : Context) (t : Tables) (bytes : Bytes) (count : ℕ) where
   pub keys-begin : KeysToCome c t bytes count 0 true
-  keys-begin =
-      let e : count - 0 ≡ count = omega arith in
-      let at : 8 + 4 * 0 ≡ 8 = omega arith in
-      rw (e, at)
+  keys-begin = ap (hasKeys c t) (keys-first bytes count)
 
-  pub keys-more : (j i : ℕ) (all : Bool) {next has : Bool} → j < count → i ≡ u32 bytes (8 + 4 * j) → has ≡ hasKey c t i → next ≡ all && has
+  pub keys-more : (j i : ℕ) (all : Bool) {next has : Bool} → j < count → i ≡ keyAt bytes j → has ≡ hasKey c t i → next ≡ all && has
       → KeysToCome c t bytes count j all → KeysToCome c t bytes count (j + 1) next
-  unfolding u32s hasKeys
+  unfolding hasKeys
   keys-more j i all h e k f so-far =
-      let n : count - j ≡ suc (count - (j + 1)) = omega arith in
-      let at : 8 + 4 * (j + 1) ≡ 8 + 4 * j + 4 = omega arith in
-      rw (f, k, e, at, and-assoc) (rw n at so-far)
+      let others = hasKeys c t (keysFrom bytes count (j + 1)) in
+      ap (λ (b : Bool). b && others) (f ∙ ap (λ (b : Bool). all && b) (k ∙ ap (hasKey c t) e))
+      ∙ and-assoc all (hasKey c t (keyAt bytes j)) others
+      ∙ ap (λ (ks : List ℕ). all && hasKeys c t ks) (sym (keys-next bytes count j h))
+      ∙ so-far
 
-  pub keys-done : (j : ℕ) (all : Bool) → count ≤ j → KeysToCome c t bytes count j all → all ≡ hasKeys c t (u32s bytes 8 count)
-  unfolding u32s hasKeys
+  pub keys-done : (j : ℕ) (all : Bool) → count ≤ j → KeysToCome c t bytes count j all → all ≡ hasKeys c t (firstKeys bytes count)
+  unfolding hasKeys
   keys-done j all h so-far =
-      let n : count - j ≡ 0 = omega arith in
-      sym (and-true all) ∙ (rw n at so-far)
+      sym (and-true all) ∙ ap (λ (ks : List ℕ). all && hasKeys c t ks) (sym (keys-end bytes count j h)) ∙ so-far
 
 -- the end of an entry is a number of 64 bits
 pub entry-end : (i size : ℕ) → i < 4294967296 → size ≤ 75 → (i + 1) * size < 18446744073709551616

@@ -11,15 +11,17 @@ use Rattle.trees.specs.Fragment.{Fragment}
 use Rattle.script_machine.specs.Numbers.{Bytes}
 use Rattle.script_bytes.specs.Tables.{Tables}
 use Rattle.script_bytes.specs.Layout.{bytesOf}
-use Rattle.script_bytes.specs.Rows.{Row, recordAt, fragmentAt}
+use Rattle.walk.specs.TreeRecords.{TreeRecord, recordAt, fragmentAt}
+use Rattle.walk.specs.declared.Node.{Node}
+use Rattle.walk.specs.Nodes.{nodeOf}
+use Rattle.walk.proofs.Laws.{few}
 use Rattle.script_leaves.specs.Laying.{Lays, maxPosition}
 use Rattle.script_leaves.specs.Leaves.{leafOf}
 use Rattle.script_leaves.proofs.Laws.{none-laid, then-laid, laid-as, keeps-length, position}
-use Rattle.script_entry.specs.declared.Node.{Node}
 use Rattle.script_entry.specs.Pieces.{front, last, childVerified, place, upTo}
 use Rattle.script_entry.specs.Pieces as Pieces
-use Rattle.script_entry.specs.Nodes.{nodeOf, Ready}
-use Rattle.script_entry.proofs.Nodes.{few, place-small, child-before, leaf-here, in-pieces}
+use Rattle.script_entry.specs.Outcomes.{Ready}
+use Rattle.script_entry.proofs.Nodes.{place-small, placed-before, leaf-here, in-pieces}
 
 -- nothing is laid yet where some bytes end
 pub none-yet : {before after bytes : Bytes} {at end : ℕ} → Lays before after at bytes end → Lays after after end [] end
@@ -36,7 +38,7 @@ module _ {c : Context} {t : Tables} {tree starts : List ℕ} {i : ℕ} (ready : 
       record { placed = λ n l. ready .placed n (omega arith); entries = λ n l. ready .entries n (omega arith) }
 
   module _ {node : Node} (is : node ≡ nodeOf (recordAt tree i)) where
-    abbrev its-row : Row tree i
+    abbrev its-row : TreeRecord tree i
     its-row = ready .placed i (omega arith) .row
 
     pub few-children : node .n ≤ 16
@@ -49,7 +51,7 @@ module _ {c : Context} {t : Tables} {tree starts : List ℕ} {i : ℕ} (ready : 
     pub child-less : (j q : ℕ) → q ≡ place (node .kind) j → j < node .n → getD (node .children) q 0 < i
     child-less j q e h =
         rw e
-        (subst (λ (x : Node). j < x .n → getD (x .children) (place (x .kind) j) 0 < i) (sym is) (child-before its-row j) h)
+        (subst (λ (x : Node). j < x .n → getD (x .children) (place (x .kind) j) 0 < i) (sym is) (placed-before its-row j) h)
 
     pub leaf-laid : (v : Bool) {before after : Bytes} {at end : ℕ} → node .n ≡ 0
         → Lays before after at (bytesOf c t v (leafOf (recordAt tree i))) end → Lays before after at (bytesOf c t v (fragmentAt tree i)) end

@@ -1,9 +1,7 @@
 -- Why the script entry keeps its promise.
-pub mod Refusals
 pub mod Pieces
 pub mod ByKind
 pub mod Nodes
-pub mod Reading
 pub mod Laying
 pub mod Entries
 pub mod Scanning

@@ -2,33 +2,31 @@
 use Prim.Native.Nat.{ℕ, zero, suc, _+_, _≤_, _<_}
 use mathlib.Core.Bool.{Bool, true, false}
 use mathlib.Core.List.{List, _++_, map}
-use mathlib.Core.Logic.{_⊎_, inl, inr}
 use mathlib.Core.Path.{_≡_, refl, sym, ap, subst, _∙_}
 use native.Mathlib.Omega.{arith}
-use borrow.Author.Tests.{eqb-true, eqb-false, leb-true, leb-false}
-use lib.Dec.{eqb, leb}
+use borrow.Author.Tests.{eqb-true, eqb-false}
+use lib.Dec.{eqb}
 use lib.ListN.{length, getD, take, length-map, List·getD-map}
 use lib.Seq.{getD-take, length-take-le}
 use Rattle.records.specs.declared.Parts.{Parts}
+use Rattle.records.specs.Shapes.{arity}
 use Rattle.records.specs.Payloads.{childrenOf}
 use Rattle.records.specs.RecordForm.{kindOf, fragmentPayload}
 use Rattle.records.specs.Answers.{partsOf}
-use Rattle.records.proofs.Laws.{padded-at, length-padded}
+use Rattle.records.proofs.Arities.{arity-above}
 use Rattle.contexts.specs.declared.Context.{Context}
 use Rattle.trees.specs.Fragment.{Fragment}
-use Rattle.trees.specs.WorkMemory.{arity}
-use Rattle.trees.proofs.ByKind.{arity-one, arity-two, arity-below, arity-above}
-use Rattle.trees.proofs.RecordLaws.{Found, own-children, few-children}
+use Rattle.walk.specs.TreeRecords.{recordAt, fragmentAt, childrenFrom, TreeRecord, Told}
+use Rattle.walk.specs.Nodes.{nodeOf}
+use Rattle.walk.proofs.Laws.{has-children, row-told, few, all-places, child-before, childless-kind}
+use Rattle.walk.proofs.KindLaws.{threshold-bounds, is-alt, is-swap, is-check, is-dup-if, is-verify, is-non-zero, is-zero-not-equal}
+use Rattle.walk.proofs.KindLaws.{is-and-b, is-and-v, is-or-b, is-or-d, is-or-c, is-or-i, is-and-or, is-thresh}
 use Rattle.script_machine.specs.Numbers.{Bytes}
 use Rattle.script_bytes.specs.Tables.{Tables}
 use Rattle.script_bytes.specs.Layout.{bytesOf}
-use Rattle.script_bytes.specs.Rows.{recordAt, fragmentAt, childrenFrom, Row, Told}
 use Rattle.script_leaves.specs.Leaves.{leafOf}
-use Rattle.script_entry.specs.Pieces.{front, last, place, upTo}
-use Rattle.script_entry.specs.Nodes.{nodeOf}
 use Rattle.script_leaves.proofs.Records.{leaf-is}
-use Rattle.script_bytes.proofs.RowKinds.{threshold-bounds, is-alt, is-swap, is-check, is-dup-if, is-verify, is-non-zero, is-zero-not-equal}
-use Rattle.script_bytes.proofs.RowKinds.{is-and-b, is-and-v, is-or-b, is-or-d, is-or-c, is-or-i, is-and-or, is-thresh}
+use Rattle.script_entry.specs.Pieces.{front, last, place, upTo}
 use Rattle.script_entry.proofs.Pieces.{InPieces, in-alt, in-swap, in-check, in-dupIf, in-verify, in-nonZero, in-zeroNotEqual}
 use Rattle.script_entry.proofs.Pieces.{in-andB, in-andV, in-orB, in-orD, in-orC, in-orI, in-andOr, in-thresh}
 
@@ -62,88 +60,28 @@ place-one kind count j h = by-kind (eqb kind 55) refl
         let same : place kind j ≡ j = rw t in
         subst (λ (n : ℕ). n < arity kind count) (sym same) h
 
-has-children : (kind count : ℕ) → 0 < arity kind count → 42 ≤ kind
-has-children kind count h = by-test (leb 42 kind) refl
-  where
-    by-test : (b : Bool) → leb 42 kind ≡ b → 42 ≤ kind
-    by-test true t = leb-true 42 kind t
-    by-test false t = absurd (omega (arith, arity-below kind count (leb-false 42 kind t)))
-
-few-kinds : (kind count : ℕ) → 0 < arity kind count → kind ≤ 56
-few-kinds kind count h = by-test (leb kind 56) refl
-  where
-    by-test : (b : Bool) → leb kind 56 ≡ b → kind ≤ 56
-    by-test true t = leb-true kind 56 t
-    by-test false t = absurd (omega (arith, arity-above kind count (leb-false kind 56 t)))
-
--- a record without children is none of the kinds that have some
-leaf-kind : (kind count : ℕ) → arity kind count ≡ 0 → (kind ≡ 56 → 1 ≤ count) → (kind ≤ 41) ⊎ (57 ≤ kind)
-leaf-kind kind count e k = from-42 (leb 42 kind) refl
-  where
-    from-49 : (b : Bool) → leb kind 54 ≡ b → 49 ≤ kind → kind ≤ 56 → ⊥
-    from-49 true t l h = omega (arith, arity-two kind count l (leb-true kind 54 t))
-    from-49 false t l h = step (λ (n : ℕ). arity n count ≡ 0 → (n ≡ 56 → 1 ≤ count) → ⊥) 55 kind (leb-false kind 54 t) (λ z _. omega arith)
-        (λ l. subst (λ (n : ℕ). arity n count ≡ 0 → (n ≡ 56 → 1 ≤ count) → ⊥) (let same : 56 ≡ kind = omega arith in same) (λ z m. omega (arith, m refl)))
-        e k
-
-    from-57 : (b : Bool) → leb 57 kind ≡ b → 42 ≤ kind → (kind ≤ 41) ⊎ (57 ≤ kind)
-    from-57 true t l = inr (leb-true 57 kind t)
-    from-57 false t l = absurd (to-48 (leb kind 48) refl)
-      where
-        to-48 : (b : Bool) → leb kind 48 ≡ b → ⊥
-        to-48 true u = omega (arith, arity-one kind count l (leb-true kind 48 u))
-        to-48 false u = from-49 (leb kind 54) refl (leb-false kind 48 u) (omega (arith, leb-false 57 kind t))
-
-    from-42 : (b : Bool) → leb 42 kind ≡ b → (kind ≤ 41) ⊎ (57 ≤ kind)
-    from-42 true t = from-57 (leb 57 kind) refl (leb-true 42 kind t)
-    from-42 false t = inl (omega (arith, leb-false 42 kind t))
-
 -- ---- the children of a record
 
-module _ {tree : List ℕ} {i : ℕ} (row : Row tree i) where
-  abbrev its-bytes : Bytes
-  its-bytes = recordAt tree i
-
+module _ {tree : List ℕ} {i : ℕ} (row : TreeRecord tree i) where
   abbrev its-kind : ℕ
   its-kind = kindOf (recordAt tree i)
 
   abbrev its-parts : Parts
   its-parts = partsOf (fragmentPayload (recordAt tree i))
 
-  pub told : Told tree i its-bytes its-kind its-parts
-  told = record { row = row; bytes-are = refl; kind-is = refl; parts-are = ap partsOf (row .fits) }
+  abbrev told : Told tree i (recordAt tree i) its-kind its-parts
+  told = row-told row
 
-  abbrev its-record : Found its-bytes its-parts its-kind (arity its-kind (its-parts .count))
-  its-record = record { payload = row .payload; fits = row .fits; parts-are = ap partsOf (row .fits); kind-is = refl; n-is = refl }
+  pub place-small : (j : ℕ) → j < nodeOf (recordAt tree i) .n → place its-kind j < 16
+  place-small j h = omega (arith, place-one its-kind (its-parts .count) j h, few row)
 
-  pub few : nodeOf its-bytes .n ≤ 16
-  few = few-children its-record
+  pub placed-before : (j : ℕ) → j < nodeOf (recordAt tree i) .n → getD (nodeOf (recordAt tree i) .children) (place its-kind j) 0 < i
+  placed-before j h = child-before row (place its-kind j) (place-one its-kind (its-parts .count) j h)
 
-  all-places : length (its-parts .children) ≡ 16
-  all-places =
-      let cs = childrenOf (row .payload) in
-      let small : length cs ≤ 16 = omega (arith, few-children its-record, own-children its-record) in
-      ap (λ (p : Parts). length (p .children)) (ap partsOf (row .fits)) ∙ length-padded cs small
-
-  pub parent-kind : 0 < nodeOf its-bytes .n → (42 ≤ its-kind) × (its-kind ≤ 56)
-  parent-kind h = (has-children its-kind (its-parts .count) h, few-kinds its-kind (its-parts .count) h)
-
-  pub place-small : (j : ℕ) → j < nodeOf its-bytes .n → place its-kind j < 16
-  place-small j h = omega (arith, place-one its-kind (its-parts .count) j h, few)
-
-  pub child-before : (j : ℕ) → j < nodeOf its-bytes .n → getD (nodeOf its-bytes .children) (place its-kind j) 0 < i
-  child-before j h =
-      let cs = childrenOf (row .payload) in
-      let q = place its-kind j in
-      let within : q < length cs = omega (arith, place-one its-kind (its-parts .count) j h, own-children its-record) in
-      let same : getD (its-parts .children) q 0 ≡ getD cs q 0 =
-      ap (λ (p : Parts). getD (p .children) q 0) (ap partsOf (row .fits)) ∙ padded-at cs q within in
-      rw same (row .before q within)
-
-  pub leaf-here : nodeOf its-bytes .n ≡ 0 → leafOf its-bytes ≡ fragmentAt tree i
+  pub leaf-here : nodeOf (recordAt tree i) .n ≡ 0 → leafOf (recordAt tree i) ≡ fragmentAt tree i
   leaf-here e =
-      leaf-is its-bytes (row .fits) (map (fragmentAt tree) (childrenOf (row .payload))) (row .makes)
-      (leaf-kind its-kind (its-parts .count) e (λ k. let b = threshold-bounds told (omega arith) in omega arith))
+      leaf-is (recordAt tree i) (row .fits) (map (fragmentAt tree) (childrenOf (row .payload))) (row .makes)
+      (childless-kind row e)
 
   -- ---- its pieces
 
@@ -163,7 +101,7 @@ module _ {tree : List ℕ} {i : ℕ} (row : Row tree i) where
         let n = its-parts .count in
         let F = fragmentAt tree in
         let xs = map F (take n (its-parts .children)) in
-        let short : n ≤ length (its-parts .children) = rw all-places (threshold-bounds told (omega arith) .2) in
+        let short : n ≤ length (its-parts .children) = rw (all-places row) (threshold-bounds told (omega arith) .2) in
         let many : length xs ≡ n = length-map (take n (its-parts .children)) F ∙ length-take-le n (its-parts .children) short in
         let each : (j : ℕ) → j < n → getD xs j (F 0) ≡ its-child j =
         λ j h. List·getD-map F (take n (its-parts .children)) j 0 ∙ ap F (getD-take n (its-parts .children) j 0 h) in
@@ -200,6 +138,6 @@ module _ {tree : List ℕ} {i : ℕ} (row : Row tree i) where
         (λ l. step PiecesAt 56 kind l (λ e h. its-thresh e)
         (λ l e h. absurd (omega (arith, arity-above kind (its-parts .count) l))))))))))))))))) e h
 
-    pub in-pieces : 0 < nodeOf its-bytes .n
-        → InPieces c t v (nodeOf its-bytes .kind) (nodeOf its-bytes .k) (nodeOf its-bytes .n) its-child (fragmentAt tree i)
+    pub in-pieces : 0 < nodeOf (recordAt tree i) .n
+        → InPieces c t v (nodeOf (recordAt tree i) .kind) (nodeOf (recordAt tree i) .k) (nodeOf (recordAt tree i) .n) its-child (fragmentAt tree i)
     in-pieces h = by-kind its-kind refl h

@@ -1,6 +1,6 @@
 -- The run that measures and the run that writes, and what the script of a tree comes to by them. Assumes nothing.
 use Prim.Native.Nat.{ℕ, _-_, _≤_, _<_}
-use mathlib.Core.Bool.{true, false}
+use mathlib.Core.Bool.{Bool, true, false}
 use mathlib.Core.List.{List, [], _++_}
 use mathlib.Core.Path.{_≡_, refl, sym, ap, subst, _∙_}
 use borrow.Author.Tests.{le-leb, lt-leb}
@@ -13,13 +13,14 @@ use Rattle.script_bytes.specs.Tables.{Tables}
 use Rattle.script_bytes.specs.Encoding.{scriptBytes}
 use Rattle.script_bytes.specs.ScriptOf.{noEntry, outputTooSmall, hasEntries, fitting, scriptIn}
 use Rattle.script_bytes.specs.Layout.{bytesOf}
-use Rattle.script_bytes.specs.Rows.{Rows, fragmentAt}
+use Rattle.walk.specs.TreeRecords.{TreeRecords, fragmentAt}
+use Rattle.script_bytes.specs.Entries.{entriesBelow}
+use Rattle.script_bytes.proofs.OwnEntries.{of-records}
 use Rattle.script_bytes.proofs.Merging.{script-bytes}
 use Rattle.script_leaves.specs.Laying.{Lays}
 use Rattle.script_leaves.proofs.Laws as laws
-use Rattle.script_entry.specs.declared.Counted.{Counted}
 use Rattle.script_entry.specs.declared.Given.{Given}
-use Rattle.script_entry.specs.Scanned.{Scanned, Gives}
+use Rattle.script_entry.specs.Outcomes.{Gives}
 
 gives-as : {a b : Answer Bytes} {out left : Bytes} {r : Given} → a ≡ b → Gives b out left r → Gives a out left r
 gives-as {a} {b} {out} {left} {r} e g = subst (λ (x : Answer Bytes). Gives x out left r) (sym e) g
@@ -52,19 +53,21 @@ module _ (c : Context) (t : Tables) (f : Fragment) (out : Bytes) {part : Bytes} 
 
 -- ---- the script of a tree that the check passed
 
-module _ {c : Context} {t : Tables} {tree : Bytes} {f : Fragment} (rows : Rows tree f) {work : List ℕ} {r : Counted}
-    (scanned : Scanned c t tree f rows work r) (room : ℕ) where
-  pub with-entries : {out left : Bytes} {g : Given} → r .all ≡ true
-      → Gives (fitting room (scriptBytes c t (fragmentAt tree (r .count - 1)))) out left g → Gives (scriptIn c t room f) out left g
+module _ (c : Context) (t : Tables) {tree : Bytes} {f : Fragment} (rows : TreeRecords tree f) {count : ℕ} (counted : count ≡ rows .count)
+    {all : Bool} (told : all ≡ entriesBelow c t tree count) (room : ℕ) where
+  tells : hasEntries c t f ≡ all
+  tells = of-records c t rows ∙ ap (entriesBelow c t tree) (sym counted) ∙ sym told
+
+  pub with-entries : {out left : Bytes} {g : Given} → all ≡ true
+      → Gives (fitting room (scriptBytes c t (fragmentAt tree (count - 1)))) out left g → Gives (scriptIn c t room f) out left g
   with-entries e g =
-      let all : hasEntries c t f ≡ true = sym (scanned .entries) ∙ e in
-      let root : fragmentAt tree (r .count - 1) ≡ f = ap (λ (n : ℕ). fragmentAt tree (n - 1)) (scanned .counts) ∙ rows .root in
-      let same : scriptIn c t room f ≡ fitting room (scriptBytes c t (fragmentAt tree (r .count - 1))) =
-      rw (all, root) in
+      let has : hasEntries c t f ≡ true = tells ∙ e in
+      let root : fragmentAt tree (count - 1) ≡ f = ap (λ (n : ℕ). fragmentAt tree (n - 1)) counted ∙ rows .root in
+      let same : scriptIn c t room f ≡ fitting room (scriptBytes c t (fragmentAt tree (count - 1))) = rw (has, root) in
       gives-as same g
 
-  pub without-entry : {out : Bytes} → r .all ≡ false → Gives (scriptIn c t room f) out out (record { number = 17; bytes = 0 })
-  without-entry e =
-      let miss : hasEntries c t f ≡ false = sym (scanned .entries) ∙ e in
+  pub without-entry : {out left : Bytes} → left ≡ out → all ≡ false → Gives (scriptIn c t room f) out left (record { number = 17; bytes = 0 })
+  without-entry same e =
+      let miss : hasEntries c t f ≡ false = tells ∙ e in
       let no : scriptIn c t room f ≡ refused noEntry = rw miss in
-      gives-as no (refuses noEntry refl)
+      gives-as no (refuses noEntry same)

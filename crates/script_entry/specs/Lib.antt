@@ -1,4 +1,3 @@
 -- For the inner contracts, in reading order.
 pub mod Pieces
-pub mod Nodes
-pub mod Scanned
+pub mod Outcomes

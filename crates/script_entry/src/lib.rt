@@ -1,27 +1,26 @@
 // The script of a fragment tree in bytes, and the entry that gives it, exported to C. It asks nothing of its caller.
 //
 // The entry's promise stands in `script_bytes`, specs/ScriptOf.antt; proofs/Determined.antt there shows that it determines the outcome. The
-// inner contracts cite specs/Pieces.antt (a fragment's bytes, piece by piece) and specs/Nodes.antt (a record).
-ghost use mathlib.Core.Option.{some};
+// inner contracts cite specs/Pieces.antt (a fragment's bytes, piece by piece) and specs/Outcomes.antt; the crate
+// `walk` has the records.
 ghost use mathlib.Core.Path.{_≡_};
 ghost use mathlib.Core.Bool.{true, _&&_};
-ghost use Prim.Native.Nat.{_+_, _<_, _≤_};
+ghost use Prim.Native.Nat.{_-_, _≤_};
 ghost use lib.ListN.{length};
 ghost use Rattle.trees.specs.Fragment.{Fragment};
 ghost use Rattle.trees.specs.Reading.{maxRecords};
-ghost use Rattle.trees.specs.TreeCheck.{contextOf};
-ghost use Rattle.trees.specs.WorkMemory.{arity};
+ghost use Rattle.records.specs.Payloads.{keysIn};
+ghost use Rattle.walk.specs.TreeRecords.{TreeRecords, Written, recordAt, fragmentAt};
+ghost use Rattle.walk.specs.Nodes.{Placed, AllPlaced};
 ghost use Rattle.script_bytes.specs.Tables.{tables, keySize, whole};
 ghost use Rattle.script_bytes.specs.ScriptOf.{hasKeys, hasEntries, fitting, scriptIn, ScriptPromise};
 ghost use Rattle.script_bytes.specs.Encoding.{scriptBytes};
 ghost use Rattle.script_bytes.specs.Layout.{bytesOf};
-ghost use Rattle.script_bytes.specs.Rows.{Rows, lengthFrom, recordAt, fragmentAt};
+ghost use Rattle.script_bytes.specs.Entries.{entriesBelow};
 ghost use Rattle.script_leaves.specs.Laying.{Lays, onlyKeys};
-ghost use Rattle.script_leaves.specs.Leaves.{keysIn, leafOf};
+ghost use Rattle.script_leaves.specs.Leaves.{leafOf};
 ghost use Rattle.script_entry.specs.Pieces.{front, after, closing, last, childVerified, place};
-ghost use Rattle.script_entry.specs.Nodes.{nodeOf, Placed, Ready};
-ghost use Rattle.script_entry.specs.Scanned.{Written, Scanned, Gives};
-use records::RecordLength;
+ghost use Rattle.script_entry.specs.Outcomes.{Ready, Gives};
 use contexts::Context;
 
 // Document 02's numbers of the refusals that come after those of the tree check.
@@ -61,20 +60,6 @@ const BOOLAND: u8 = 0x9a;
 const BOOLOR: u8 = 0x9b;
 
 const CHECKSIG: u8 = 0xac;
-
-// A record: its kind, its k, and its n children, by their numbers; zeros follow them.
-pub struct Node {
-    pub kind: u16,
-    pub k: u16,
-    pub n: usize,
-    pub children: [u16; 16],
-}
-
-// How many records a tree has, and whether every number of the tree has a whole entry in its table.
-pub struct Counted {
-    pub count: usize,
-    pub all: bool,
-}
 
 // The number of an outcome and the bytes that it wrote.
 pub struct Given {
@@ -190,54 +175,6 @@ fn place(kind: u16, j: usize) -> usize
     j
 }
 
-// How many children a record of this kind has, that has `count` children or keys.
-fn child_count(kind: u16, count: usize) -> usize
-    ensures { λ r. ⌜ r ≡ arity kind count ⌝ }
-{
-    match kind {
-        42..=48 => 1,
-        49..=54 => 2,
-        55 => 3,
-        56 => count,
-        _ => 0,
-    }
-}
-
-// Where the record that begins at `start` ends.
-fn record_end(tree: &[u8], start: usize) -> usize
-    ensures { λ r. ⌜ r ≡ start + lengthFrom (now (tree .entry)) start ⌝ }
-{
-    match records::length_at(tree, start) {
-        RecordLength::Whole(len) => start + len,
-        RecordLength::Broken => start,
-    }
-}
-
-// The node of a record.
-fn node_of(bytes: &[u8]) -> Node
-    ensures { λ r. ⌜ r ≡ nodeOf (now (bytes .entry)) ⌝ }
-{
-    let parts = records::fragment_parts(bytes);
-    let kind = records::kind_of(bytes);
-    let children = parts.children;
-    Node {
-        kind,
-        k: parts.k,
-        n: child_count(kind, parts.count),
-        children,
-    }
-}
-
-// The node of record i.
-fn node_at(tree: &[u8], starts: &[u64], i: usize) -> Node
-    requires { ⌜ Placed (now tree) (now starts) i ⌝ }
-    ensures { λ r. ⌜ r ≡ nodeOf (recordAt (now (tree .entry)) i) ⌝ }
-{
-    let start = starts[i] as usize;
-    let end = record_end(tree, start);
-    node_of(&tree[start..end])
-}
-
 // Lays the leaf of record i.
 fn lay_leaf_at(
     out: &mut [u8],
@@ -260,7 +197,7 @@ fn lay_leaf_at(
         verified (leafOf (recordAt (now (tree .entry)) i))) r ⌝ }
 {
     let start = starts[i] as usize;
-    let end = record_end(tree, start);
+    let end = walk::record_end(tree, start);
     script_leaves::lay_leaf(
         out,
         at,
@@ -293,7 +230,7 @@ fn lay_record(
         (tables (now (keys .entry)) (now («key_hashes» .entry)) (now (hashes32 .entry)) (now (hashes20 .entry)))
         verified (fragmentAt (now (tree .entry)) i)) r ⌝ }
 {
-    let node = node_at(tree, starts, i);
+    let node = walk::node_at(tree, starts, i);
     let kind = node.kind;
     let n = node.n;
     if n == 0 {
@@ -364,11 +301,11 @@ fn has_key(context: Context, keys: &[u8], i: u32) -> bool
 fn has_keys(context: Context, keys: &[u8], bytes: &[u8]) -> bool
     ensures { λ r. ⌜ r ≡ hasKeys context (onlyKeys (now (keys .entry))) (keysIn (now (bytes .entry))) ⌝ }
 {
-    let count = records::u16_or_zero(bytes, 6);
+    let count = records::count_of(bytes);
     let mut all = true;
     let mut j = 0;
     while j < count {
-        let i = records::u32_or_zero(bytes, 8 + 4 * (j as usize));
+        let i = records::key_at(bytes, j);
         all = both(all, has_key(context, keys, i));
         j += 1;
     }
@@ -388,7 +325,7 @@ fn own_entries(
         (tables (now (keys .entry)) (now («key_hashes» .entry)) (now (hashes32 .entry)) (now (hashes20 .entry)))
         (leafOf (now (bytes .entry))) ⌝ }
 {
-    let n = records::u32_or_zero(bytes, 4);
+    let n = records::number_of(bytes);
     match records::kind_of(bytes) {
         34 => has_key(context, keys, n),
         35 => has_entry(key_hashes, 20, n),
@@ -402,42 +339,67 @@ fn own_entries(
     }
 }
 
-// Stores where each record begins, counts the records, and looks for every number's entry.
-fn scan(
+// Whether the numbers that stand in record i have whole entries.
+fn entries_at(
     context: Context,
     tree: &[u8],
     keys: &[u8],
     key_hashes: &[u8],
     hashes32: &[u8],
     hashes20: &[u8],
-    work: &mut [u64],
-) -> Counted
-    requires { ⌜ Written (now tree) × (length (now work) ≡ maxRecords) ⌝ }
-    ensures { λ r. ⌜ ((f : Fragment) (rows : Rows (now (tree .entry)) f)
-        → Scanned context
+    starts: &[u64],
+    i: usize,
+) -> bool
+    requires { ⌜ Placed (now tree) (now starts) i ⌝ }
+    ensures { λ r. ⌜ r ≡ hasEntries context
         (tables (now (keys .entry)) (now («key_hashes» .entry)) (now (hashes32 .entry)) (now (hashes20 .entry)))
-        (now (tree .entry)) f rows (now (work .exit)) r) ⌝ }
-    ensures { λ _. ⌜ length (now (work .exit)) ≡ length (now (work .entry)) ⌝ }
+        (leafOf (recordAt (now (tree .entry)) i)) ⌝ }
 {
-    let mut at = 0;
-    let mut count = 0;
+    let start = starts[i] as usize;
+    let end = walk::record_end(tree, start);
+    own_entries(
+        context,
+        &tree[start..end],
+        keys,
+        key_hashes,
+        hashes32,
+        hashes20,
+    )
+}
+
+// Whether the numbers of each of `count` records have whole entries.
+fn all_entries(
+    context: Context,
+    tree: &[u8],
+    keys: &[u8],
+    key_hashes: &[u8],
+    hashes32: &[u8],
+    hashes20: &[u8],
+    starts: &[u64],
+    count: usize,
+) -> bool
+    requires { ⌜ AllPlaced (now tree) (now starts) (count - 1) ⌝ }
+    ensures { λ r. ⌜ r ≡ entriesBelow context
+        (tables (now (keys .entry)) (now («key_hashes» .entry)) (now (hashes32 .entry)) (now (hashes20 .entry)))
+        (now (tree .entry)) count ⌝ }
+{
     let mut all = true;
-    while at < tree.len() {
-        work[count] = at as u64;
-        let end = record_end(tree, at);
-        let own = own_entries(
+    let mut i = 0;
+    while i < count {
+        let own = entries_at(
             context,
-            &tree[at..end],
+            tree,
             keys,
             key_hashes,
             hashes32,
             hashes20,
+            starts,
+            i,
         );
         all = both(all, own);
-        at = end;
-        count += 1;
+        i += 1;
     }
-    Counted { count, all }
+    all
 }
 
 // Lays the script of record `root` if it fits: a run over no output measures it first.
@@ -507,16 +469,25 @@ fn script_in(
     work: &mut [u64],
 ) -> Given
     requires { ⌜ Written (now tree) × (length (now work) ≡ maxRecords) ⌝ }
-    ensures { λ r. ⌜ ((f : Fragment) → Rows (now (tree .entry)) f
+    ensures { λ r. ⌜ ((f : Fragment) → TreeRecords (now (tree .entry)) f
         → Gives (scriptIn context
         (tables (now (keys .entry)) (now («key_hashes» .entry)) (now (hashes32 .entry)) (now (hashes20 .entry)))
         (length (now (out .entry))) f) (now (out .entry)) (now (out .exit)) r) ⌝ }
     ensures { λ _. ⌜ length (now (work .exit)) ≡ length (now (work .entry)) ⌝ }
 {
-    let scanned = scan(context, tree, keys, key_hashes, hashes32, hashes20, work);
-    let all = scanned.all;
+    let count = walk::scan(tree, work);
+    let all = all_entries(
+        context,
+        tree,
+        keys,
+        key_hashes,
+        hashes32,
+        hashes20,
+        work,
+        count,
+    );
     if all {
-        let root = scanned.count - 1;
+        let root = count - 1;
         return lay_root(
             out,
             context,
@@ -533,16 +504,6 @@ fn script_in(
         number: NO_ENTRY,
         bytes: 0,
     }
-}
-
-// The context that has the number, where one has.
-fn context_of(context: u32) -> Context
-    ensures { λ c. ⌜ ((x : Context) → contextOf context ≡ some x → c ≡ x) ⌝ }
-{
-    if context == 0 {
-        return Context::Segwitv0;
-    }
-    Context::Tap
 }
 
 // The script of a tree: the number of document 02, the script in `out`, and in `bytes` how many bytes it has, 0 on a refusal. Work memory is zero
@@ -567,7 +528,7 @@ pub extern "C" fn claspwillow_script(
     let number = claspwillow::claspwillow_check(context, tree, work, &mut ty);
     if number == 0 {
         let r = script_in(
-            context_of(context),
+            claspwillow::context_of(context),
             tree,
             keys,
             key_hashes,

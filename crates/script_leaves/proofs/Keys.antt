@@ -1,41 +1,18 @@
 -- The keys of a Multi and of a MultiA that are still to come, and tables where keys alone are looked up. Assumes nothing.
-use Prim.Native.Nat.{ℕ, suc, _+_, _*_, _-_, _<_, _≤_}
+use Prim.Native.Nat.{ℕ, _+_, _<_, _≤_}
 use mathlib.Core.Bool.{Bool, true, false, _&&_}
 use mathlib.Core.List.{List, [], _∷_, _++_, append-assoc}
 use mathlib.Core.Path.{_≡_, refl, sym, _∙_, ap}
 use native.Mathlib.Omega.{arith}
 use Rattle.contexts.specs.declared.Context.{Context}
-use Rattle.records.specs.Numbers.{u32, u32s}
+use Rattle.records.specs.Payloads.{keyAt, firstKeys, keysFrom}
+use Rattle.records.proofs.Laws.{keys-first, keys-next, keys-end}
 use Rattle.script_machine.specs.Numbers.{Bytes}
 use Rattle.script_bytes.specs.Tables.{Tables, tables, key, hasKey}
 use Rattle.script_bytes.specs.Encoding.{pushBytes}
 use Rattle.script_bytes.specs.ScriptOf.{hasKeys}
 use Rattle.script_bytes.specs.Layout.{keysBytes, sigAddsBytes, sigSumBytes}
 use Rattle.script_leaves.specs.Laying.{onlyKeys}
-
--- ---- the keys of a record from the j-th on
-
-abbrev pub keysFrom : Bytes → (count j : ℕ) → List ℕ
-keysFrom bytes count j = u32s bytes (8 + 4 * j) (count - j)
-
-keys-first : (bytes : Bytes) (count : ℕ) → keysFrom bytes count 0 ≡ u32s bytes 8 count
-keys-first bytes count =
-    let e : count - 0 ≡ count = omega arith in
-    let at : 8 + 4 * 0 ≡ 8 = omega arith in
-    rw (e, at)
-
-keys-next : (bytes : Bytes) (count j : ℕ) → j < count → keysFrom bytes count j ≡ u32 bytes (8 + 4 * j) ∷ keysFrom bytes count (j + 1)
-unfolding u32s
-keys-next bytes count j h =
-    let e : count - j ≡ suc (count - (j + 1)) = omega arith in
-    let at : 8 + 4 * (j + 1) ≡ 8 + 4 * j + 4 = omega arith in
-    rw (e, at)
-
-keys-end : (bytes : Bytes) (count j : ℕ) → count ≤ j → keysFrom bytes count j ≡ []
-unfolding u32s
-keys-end bytes count j h =
-    let e : count - j ≡ 0 = omega arith in
-    rw e
 
 -- ---- whether they are in the table, and their bytes
 
@@ -44,27 +21,27 @@ and-both true b e = (refl, e)
 and-both false b e = (e, absurd (let z : _≡_ {A = ℕ} 0 1 = cc in omega arith))
 
 module _ (c : Context) (t : Tables) (bytes : Bytes) (count j : ℕ) where
-  pub all-there : hasKeys c t (u32s bytes 8 count) ≡ true → hasKeys c t (keysFrom bytes count 0) ≡ true
+  pub all-there : hasKeys c t (firstKeys bytes count) ≡ true → hasKeys c t (keysFrom bytes count 0) ≡ true
   all-there e = ap (hasKeys c t) (keys-first bytes count) ∙ e
 
   -- the next key is there, and so are the others
   there : j < count → hasKeys c t (keysFrom bytes count j) ≡ true
-      → (hasKey c t (u32 bytes (8 + 4 * j)) ≡ true) × (hasKeys c t (keysFrom bytes count (j + 1)) ≡ true)
+      → (hasKey c t (keyAt bytes j) ≡ true) × (hasKeys c t (keysFrom bytes count (j + 1)) ≡ true)
   unfolding hasKeys
   there h e =
-      and-both (hasKey c t (u32 bytes (8 + 4 * j))) (hasKeys c t (keysFrom bytes count (j + 1)))
+      and-both (hasKey c t (keyAt bytes j)) (hasKeys c t (keysFrom bytes count (j + 1)))
       (sym (ap (hasKeys c t) (keys-next bytes count j h)) ∙ e)
 
-  pub key-there : (i : ℕ) → i ≡ u32 bytes (8 + 4 * j) → j < count → hasKeys c t (keysFrom bytes count j) ≡ true → hasKey c t i ≡ true
+  pub key-there : (i : ℕ) → i ≡ keyAt bytes j → j < count → hasKeys c t (keysFrom bytes count j) ≡ true → hasKey c t i ≡ true
   key-there i e h k = rw e (there h k .0)
 
   pub others-there : j < count → hasKeys c t (keysFrom bytes count j) ≡ true → hasKeys c t (keysFrom bytes count (j + 1)) ≡ true
   others-there h k = there h k .1
 
-  pub key-first : keysBytes c t (keysFrom bytes count 0) ≡ keysBytes c t (u32s bytes 8 count)
+  pub key-first : keysBytes c t (keysFrom bytes count 0) ≡ keysBytes c t (firstKeys bytes count)
   key-first = ap (keysBytes c t) (keys-first bytes count)
 
-  pub key-next : (i : ℕ) → i ≡ u32 bytes (8 + 4 * j) → j < count
+  pub key-next : (i : ℕ) → i ≡ keyAt bytes j → j < count
       → keysBytes c t (keysFrom bytes count j) ≡ pushBytes (key c t i) ++ keysBytes c t (keysFrom bytes count (j + 1))
   unfolding keysBytes
   key-next i e h = rw e (ap (keysBytes c t) (keys-next bytes count j h))
@@ -84,15 +61,15 @@ module _ (c : Context) (t : Tables) where
   sigs-sum [] = refl
   sigs-sum (i ∷ is) = refl
 
-  pub sig-first : (bytes : Bytes) (count : ℕ) → sigsBytes 0xac (keysFrom bytes count 0) ≡ sigSumBytes c t (u32s bytes 8 count)
-  sig-first bytes count = ap (sigsBytes 0xac) (keys-first bytes count) ∙ sigs-sum (u32s bytes 8 count)
+  pub sig-first : (bytes : Bytes) (count : ℕ) → sigsBytes 0xac (keysFrom bytes count 0) ≡ sigSumBytes c t (firstKeys bytes count)
+  sig-first bytes count = ap (sigsBytes 0xac) (keys-first bytes count) ∙ sigs-sum (firstKeys bytes count)
 
   sigs-add : (is : List ℕ) → sigAddsBytes c t is ≡ sigsBytes 0xba is
   unfolding sigAddsBytes
   sigs-add [] = refl
   sigs-add (i ∷ is) = refl
 
-  pub sig-next : (bytes : Bytes) (count j opcode : ℕ) (i : ℕ) → i ≡ u32 bytes (8 + 4 * j) → j < count
+  pub sig-next : (bytes : Bytes) (count j opcode : ℕ) (i : ℕ) → i ≡ keyAt bytes j → j < count
       → sigsBytes opcode (keysFrom bytes count j)
       ≡ (pushBytes (key c t i) ++ opcode ∷ []) ++ sigsBytes 0xba (keysFrom bytes count (j + 1))
   sig-next bytes count j opcode i e h =

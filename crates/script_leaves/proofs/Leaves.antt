@@ -9,9 +9,9 @@ use borrow.Author.Tests.{ne-eqb}
 use lib.ListN.{length}
 use Rattle.contexts.specs.declared.Context.{Context}
 use Rattle.contexts.specs.Leaves.{After, Older, HashKind, Sha256, Hash256, Ripemd160, Hash160}
-use Rattle.records.specs.Numbers.{u16, u32, u32s}
+use Rattle.records.specs.Payloads.{numberIn, kIn, countIn, firstKeys, keysIn}
 use Rattle.records.specs.RecordForm.{kindOf}
-use Rattle.records.proofs.Numbers.{length-u32s}
+use Rattle.records.proofs.Laws.{length-keys}
 use Rattle.trees.specs.Fragment.{Fragment, False, True, PkK, PkH, Lock, Hash}
 use Rattle.trees.specs.Tree.{find}
 use Rattle.script_machine.specs.Numbers.{Bytes}
@@ -20,7 +20,7 @@ use Rattle.script_bytes.specs.ScriptOf.{hasKeys, hasEntries}
 use Rattle.script_bytes.specs.Layout.{testByte, numberBytes, bytesOf, keysBytes, sigSumBytes}
 use Rattle.script_bytes.proofs.Merging.{bytes-multi, bytes-multiA}
 use Rattle.script_leaves.specs.Laying.{Lays, EntrySize, onlyKeys}
-use Rattle.script_leaves.specs.Leaves.{numbered, leafOf, keysIn, multiOf, multiAOf}
+use Rattle.script_leaves.specs.Leaves.{numbered, leafOf, multiOf, multiAOf}
 use Rattle.script_leaves.proofs.Laws.{laid-as}
 use Rattle.script_leaves.proofs.Keys.{only-keys, only-sums, only-keys-there}
 
@@ -90,7 +90,7 @@ module _ (bytes : Bytes) where
   unfolding leafOf find
   is-multi-a e = rw e
 
-  pub is-numbered : kindOf bytes ≢ 57 → kindOf bytes ≢ 58 → leafOf bytes ≡ numbered (kindOf bytes) (u32 bytes 4)
+  pub is-numbered : kindOf bytes ≢ 57 → kindOf bytes ≢ 58 → leafOf bytes ≡ numbered (kindOf bytes) (numberIn bytes)
   unfolding leafOf find
   is-numbered a b = rw (ne-eqb (kindOf bytes) 57 a, ne-eqb (kindOf bytes) 58 b)
 
@@ -125,16 +125,16 @@ module _ (c : Context) (t : Tables) (n : ℕ) {f : Fragment} (h : hasEntries c t
 
 -- ---- Multi and MultiA, with tables where keys alone are looked up
 
-module _ (c : Context) (t : Tables) (v : Bool) (bytes : Bytes) (k count : ℕ) (first : k ≡ u16 bytes 4) (second : count ≡ u16 bytes 6) where
-  pub counted-keys : hasKeys c t (keysIn bytes) ≡ true → hasKeys c t (u32s bytes 8 count) ≡ true
+module _ (c : Context) (t : Tables) (v : Bool) (bytes : Bytes) (k count : ℕ) (first : k ≡ kIn bytes) (second : count ≡ countIn bytes) where
+  pub counted-keys : hasKeys c t (keysIn bytes) ≡ true → hasKeys c t (firstKeys bytes count) ≡ true
   counted-keys h = rw second h
 
-  pub multi-bytes : numberBytes k ++ keysBytes c t (u32s bytes 8 count) ++ (numberBytes count ++ testByte 0xae v) ≡ bytesOf c t v (multiOf bytes)
+  pub multi-bytes : numberBytes k ++ keysBytes c t (firstKeys bytes count) ++ (numberBytes count ++ testByte 0xae v) ≡ bytesOf c t v (multiOf bytes)
   multi-bytes =
-      rw (first, second) (sym (bytes-multi c t v (u16 bytes 4) (keysIn bytes) ∙ rw (length-u32s bytes 8 (u16 bytes 6))))
+      rw (first, second) (sym (bytes-multi c t v (kIn bytes) (keysIn bytes) ∙ rw (length-keys bytes (countIn bytes))))
 
-  pub multi-a-bytes : sigSumBytes c t (u32s bytes 8 count) ++ (numberBytes k ++ testByte 0x9c v) ≡ bytesOf c t v (multiAOf bytes)
-  multi-a-bytes = rw (first, second) (sym (bytes-multiA c t v (u16 bytes 4) (keysIn bytes)))
+  pub multi-a-bytes : sigSumBytes c t (firstKeys bytes count) ++ (numberBytes k ++ testByte 0x9c v) ≡ bytesOf c t v (multiAOf bytes)
+  multi-a-bytes = rw (first, second) (sym (bytes-multiA c t v (kIn bytes) (keysIn bytes)))
 
 module _ (c : Context) (keys keyHashes hashes32 hashes20 : Bytes) (v : Bool) (bytes : Bytes) where
   pub multi-ready : hasEntries c (tables keys keyHashes hashes32 hashes20) (leafOf bytes) ≡ true → kindOf bytes ≡ 57
@@ -157,7 +157,7 @@ module _ (c : Context) (keys keyHashes hashes32 hashes20 : Bytes) (v : Bool) (by
       → bytesOf c (onlyKeys keys) v (multiOf bytes) ≡ bytesOf c (tables keys keyHashes hashes32 hashes20) v (leafOf bytes)
   multi-leaf e =
       let ks : List ℕ = keysIn bytes in
-      let k : ℕ = u16 bytes 4 in
+      let k : ℕ = kIn bytes in
       bytes-multi c (onlyKeys keys) v k ks
       ∙ ap (λ (z : Bytes). numberBytes k ++ z ++ (numberBytes (length ks) ++ testByte 0xae v)) (only-keys c keys keyHashes hashes32 hashes20 ks)
       ∙ sym (ap (bytesOf c (tables keys keyHashes hashes32 hashes20) v) (is-multi bytes e)
@@ -167,7 +167,7 @@ module _ (c : Context) (keys keyHashes hashes32 hashes20 : Bytes) (v : Bool) (by
       → bytesOf c (onlyKeys keys) v (multiAOf bytes) ≡ bytesOf c (tables keys keyHashes hashes32 hashes20) v (leafOf bytes)
   multi-a-leaf e =
       let ks : List ℕ = keysIn bytes in
-      let k : ℕ = u16 bytes 4 in
+      let k : ℕ = kIn bytes in
       bytes-multiA c (onlyKeys keys) v k ks
       ∙ ap (λ (z : Bytes). z ++ (numberBytes k ++ testByte 0x9c v)) (only-sums c keys keyHashes hashes32 hashes20 ks)
       ∙ sym (ap (bytesOf c (tables keys keyHashes hashes32 hashes20) v) (is-multi-a bytes e)
@@ -175,7 +175,7 @@ module _ (c : Context) (keys keyHashes hashes32 hashes20 : Bytes) (v : Bool) (by
 
 -- ---- a record of any other kind
 
-module _ (c : Context) (t : Tables) (v : Bool) (bytes : Bytes) (kind n : ℕ) (first : kind ≡ kindOf bytes) (second : n ≡ u32 bytes 4)
+module _ (c : Context) (t : Tables) (v : Bool) (bytes : Bytes) (kind n : ℕ) (first : kind ≡ kindOf bytes) (second : n ≡ numberIn bytes)
     (no-multi : kind ≢ 57) (no-multi-a : kind ≢ 58) where
   other-kind : leafOf bytes ≡ numbered kind n
   other-kind =

@@ -9,8 +9,7 @@ use native.Mathlib.Omega.{arith}
 use borrow.Author.Tests.{leb-true, leb-false}
 use lib.Dec.{leb}
 use Rattle.contexts.specs.Leaves.{After, Older, Sha256, Hash256, Ripemd160, Hash160}
-use Rattle.records.specs.Numbers.{u16, u32}
-use Rattle.records.specs.Payloads.{Payload, numberOf, kOf, keysOf, payloadOf}
+use Rattle.records.specs.Payloads.{Payload, numberOf, kOf, keysOf, payloadOf, numberIn, kIn, keysIn}
 use Rattle.records.specs.RecordForm.{kindOf, fragmentPayload, payloadAs}
 use Rattle.records.specs.Shapes.{shapeOf}
 use Rattle.records.specs.declared.Shape.{Shape}
@@ -21,7 +20,7 @@ use Rattle.records.proofs.KindRanges.{shapes-in}
 use Rattle.trees.specs.Fragment.{Fragment, False, True, PkK, PkH, Lock, Hash, Multi, MultiA}
 use Rattle.trees.specs.Tree.{find, fragmentOf, plain, withNumber, ofKeys}
 use Rattle.script_machine.specs.Numbers.{Bytes}
-use Rattle.script_leaves.specs.Leaves.{numbered, leafOf, keysIn}
+use Rattle.script_leaves.specs.Leaves.{numbered, leafOf}
 use Rattle.script_leaves.proofs.Leaves.{is-true, is-pk-k, is-pk-h, is-after, is-older, is-sha256, is-hash256, is-ripemd160, is-hash160}
 use Rattle.script_leaves.proofs.Leaves.{is-multi, is-multi-a, is-numbered}
 
@@ -46,10 +45,10 @@ module _ (bytes : Bytes) {p : Payload} (form : fragmentPayload bytes ≡ some p)
   of-shape : (shape : Shape) → shapeOf (kindOf bytes) ≡ some shape → payloadOf shape bytes ≡ some p
   of-shape shape e = sym (ap (λ o. payloadAs o bytes) e) ∙ fragment-record bytes form .1
 
-  one-number : 34 ≤ kindOf bytes → kindOf bytes ≤ 41 → numberOf p ≡ u32 bytes 4
+  one-number : 34 ≤ kindOf bytes → kindOf bytes ≤ 41 → numberOf p ≡ numberIn bytes
   one-number l h = by-tests (leb (kindOf bytes) 35) (leb (kindOf bytes) 37) refl refl
     where
-      by-tests : (s t : Bool) → leb (kindOf bytes) 35 ≡ s → leb (kindOf bytes) 37 ≡ t → numberOf p ≡ u32 bytes 4
+      by-tests : (s t : Bool) → leb (kindOf bytes) 35 ≡ s → leb (kindOf bytes) 37 ≡ t → numberOf p ≡ numberIn bytes
       by-tests true t d e =
           ap numberOf (is-number bytes (of-shape Shape.Number (shapes-in 34 35 refl (kindOf bytes) l (leb-true (kindOf bytes) 35 d))))
       by-tests false true d e =
@@ -59,7 +58,7 @@ module _ (bytes : Bytes) {p : Payload} (form : fragmentPayload bytes ≡ some p)
           let above = leb-false (kindOf bytes) 37 e in
           ap numberOf (is-number bytes (of-shape Shape.Number (shapes-in 38 41 refl (kindOf bytes) (omega arith) h)))
 
-  some-keys : 57 ≤ kindOf bytes → kindOf bytes ≤ 58 → (kOf p ≡ u16 bytes 4) × (keysOf p ≡ keysIn bytes)
+  some-keys : 57 ≤ kindOf bytes → kindOf bytes ≤ 58 → (kOf p ≡ kIn bytes) × (keysOf p ≡ keysIn bytes)
   some-keys l h =
       let e = is-keys bytes (of-shape Shape.Keys (shapes-in 57 58 refl (kindOf bytes) l h)) in
       (ap kOf e, ap keysOf e)
@@ -70,15 +69,15 @@ module _ (bytes : Bytes) {p : Payload} (form : fragmentPayload bytes ≡ some p)
     made-at : (kind : ℕ) → kindOf bytes ≡ kind → fragmentOf kind p xs ≡ some f
     made-at kind e = sym (ap (λ (k : ℕ). fragmentOf k p xs) e) ∙ made
 
-    of-plain : (g : Fragment) → kindOf bytes < 57 → numbered (kindOf bytes) (u32 bytes 4) ≡ g → plain g p xs ≡ some f → leafOf bytes ≡ f
+    of-plain : (g : Fragment) → kindOf bytes < 57 → numbered (kindOf bytes) (numberIn bytes) ≡ g → plain g p xs ≡ some f → leafOf bytes ≡ f
     of-plain g l s m = is-numbered bytes (λ e. omega arith) (λ e. omega arith) ∙ s ∙ made-plain p g xs m
 
-    of-number : (g : ℕ → Fragment) → 34 ≤ kindOf bytes → kindOf bytes ≤ 41 → numbered (kindOf bytes) (u32 bytes 4) ≡ g (u32 bytes 4)
+    of-number : (g : ℕ → Fragment) → 34 ≤ kindOf bytes → kindOf bytes ≤ 41 → numbered (kindOf bytes) (numberIn bytes) ≡ g (numberIn bytes)
         → withNumber g p xs ≡ some f → leafOf bytes ≡ f
     of-number g l h s m =
         is-numbered bytes (λ e. omega arith) (λ e. omega arith) ∙ s ∙ sym (ap g (one-number l h)) ∙ made-number p g xs m
 
-    of-keys : (g : ℕ → List ℕ → Fragment) → 57 ≤ kindOf bytes → kindOf bytes ≤ 58 → leafOf bytes ≡ g (u16 bytes 4) (keysIn bytes)
+    of-keys : (g : ℕ → List ℕ → Fragment) → 57 ≤ kindOf bytes → kindOf bytes ≤ 58 → leafOf bytes ≡ g (kIn bytes) (keysIn bytes)
         → ofKeys g p xs ≡ some f → leafOf bytes ≡ f
     of-keys g l h s m =
         let both = some-keys l h in
@@ -87,23 +86,23 @@ module _ (bytes : Bytes) {p : Payload} (form : fragmentPayload bytes ≡ some p)
     numbered-kind : (n : ℕ) → kindOf bytes ≡ 32 + n → n < 10 → leafOf bytes ≡ f
     unfolding numbered find
     numbered-kind zero e h = of-plain False (omega arith) (rw e) (made-at 32 e)
-    numbered-kind (suc zero) e h = of-plain True (omega arith) (is-true (kindOf bytes) (u32 bytes 4) e) (made-at 33 e)
+    numbered-kind (suc zero) e h = of-plain True (omega arith) (is-true (kindOf bytes) (numberIn bytes) e) (made-at 33 e)
     numbered-kind (suc (suc zero)) e h =
-        of-number PkK (omega arith) (omega arith) (is-pk-k (kindOf bytes) (u32 bytes 4) e) (made-at 34 e)
+        of-number PkK (omega arith) (omega arith) (is-pk-k (kindOf bytes) (numberIn bytes) e) (made-at 34 e)
     numbered-kind (suc (suc (suc zero))) e h =
-        of-number PkH (omega arith) (omega arith) (is-pk-h (kindOf bytes) (u32 bytes 4) e) (made-at 35 e)
+        of-number PkH (omega arith) (omega arith) (is-pk-h (kindOf bytes) (numberIn bytes) e) (made-at 35 e)
     numbered-kind (suc (suc (suc (suc zero)))) e h =
-        of-number (Lock After) (omega arith) (omega arith) (is-after (kindOf bytes) (u32 bytes 4) e) (made-at 36 e)
+        of-number (Lock After) (omega arith) (omega arith) (is-after (kindOf bytes) (numberIn bytes) e) (made-at 36 e)
     numbered-kind (suc (suc (suc (suc (suc zero))))) e h =
-        of-number (Lock Older) (omega arith) (omega arith) (is-older (kindOf bytes) (u32 bytes 4) e) (made-at 37 e)
+        of-number (Lock Older) (omega arith) (omega arith) (is-older (kindOf bytes) (numberIn bytes) e) (made-at 37 e)
     numbered-kind (suc (suc (suc (suc (suc (suc zero)))))) e h =
-        of-number (Hash Sha256) (omega arith) (omega arith) (is-sha256 (kindOf bytes) (u32 bytes 4) e) (made-at 38 e)
+        of-number (Hash Sha256) (omega arith) (omega arith) (is-sha256 (kindOf bytes) (numberIn bytes) e) (made-at 38 e)
     numbered-kind (suc (suc (suc (suc (suc (suc (suc zero))))))) e h =
-        of-number (Hash Hash256) (omega arith) (omega arith) (is-hash256 (kindOf bytes) (u32 bytes 4) e) (made-at 39 e)
+        of-number (Hash Hash256) (omega arith) (omega arith) (is-hash256 (kindOf bytes) (numberIn bytes) e) (made-at 39 e)
     numbered-kind (suc (suc (suc (suc (suc (suc (suc (suc zero)))))))) e h =
-        of-number (Hash Ripemd160) (omega arith) (omega arith) (is-ripemd160 (kindOf bytes) (u32 bytes 4) e) (made-at 40 e)
+        of-number (Hash Ripemd160) (omega arith) (omega arith) (is-ripemd160 (kindOf bytes) (numberIn bytes) e) (made-at 40 e)
     numbered-kind (suc (suc (suc (suc (suc (suc (suc (suc (suc zero))))))))) e h =
-        of-number (Hash Hash160) (omega arith) (omega arith) (is-hash160 (kindOf bytes) (u32 bytes 4) e) (made-at 41 e)
+        of-number (Hash Hash160) (omega arith) (omega arith) (is-hash160 (kindOf bytes) (numberIn bytes) e) (made-at 41 e)
     numbered-kind (suc (suc (suc (suc (suc (suc (suc (suc (suc (suc n)))))))))) e h = absurd (omega arith)
 
     keys-kind : (n : ℕ) → kindOf bytes ≡ 57 + n → n < 2 → leafOf bytes ≡ f

@@ -2,7 +2,7 @@
 use Prim.Native.Nat.{ℕ}
 use mathlib.Core.List.{List, [], _∷_}
 use mathlib.Core.Option.{Option, none, some}
-use Rattle.records.specs.Numbers.{u16, u32, u32s}
+use Rattle.records.specs.Payloads.{numberIn, kIn, keysIn}
 use Rattle.records.specs.RecordForm.{kindOf}
 use Rattle.contexts.specs.Leaves.{After, Older, Sha256, Hash256, Ripemd160, Hash160}
 use Rattle.trees.specs.Fragment.{Fragment, False, True, PkK, PkH, Lock, Hash, Multi, MultiA}
@@ -13,15 +13,12 @@ abbrev pub orElse : Fragment → Option Fragment → Fragment
 orElse other (some f) = f
 orElse other none = other
 
--- the keys of a Multi or a MultiA, and the two
-abbrev pub keysIn : (bytes : Bytes) → List ℕ
-keysIn bytes = u32s bytes 8 (u16 bytes 6)
-
+-- Multi and MultiA
 abbrev pub multiOf : (bytes : Bytes) → Fragment
-multiOf bytes = Multi (u16 bytes 4) (keysIn bytes)
+multiOf bytes = Multi (kIn bytes) (keysIn bytes)
 
 abbrev pub multiAOf : (bytes : Bytes) → Fragment
-multiAOf bytes = MultiA (u16 bytes 4) (keysIn bytes)
+multiAOf bytes = MultiA (kIn bytes) (keysIn bytes)
 
 -- a leaf that holds one number or none; False under every other kind
 unfoldable pub numbered : (kind n : ℕ) → Fragment
@@ -39,5 +36,5 @@ numbered kind n = orElse False (find kind (
 
 -- the leaf of a whole record
 unfoldable pub leafOf : (bytes : Bytes) → Fragment
-leafOf bytes = orElse (numbered (kindOf bytes) (u32 bytes 4)) (find (kindOf bytes) (
+leafOf bytes = orElse (numbered (kindOf bytes) (numberIn bytes)) (find (kindOf bytes) (
     57 is multiOf bytes ∷ 58 is multiAOf bytes ∷ []))

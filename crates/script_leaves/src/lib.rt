@@ -8,17 +8,19 @@ ghost use mathlib.Core.Bool.{true};
 ghost use mathlib.Core.List.{[], _∷_, _++_};
 ghost use Prim.Native.Nat.{_+_, _<_};
 ghost use Rattle.words.specs.Bytes as Little;
-ghost use Rattle.records.specs.Numbers.{u32s};
+ghost use Rattle.records.specs.Payloads.{firstKeys, keysIn};
 ghost use Rattle.script_bytes.specs.Tables.{tables, entry, whole, keySize, keyHashSize};
 ghost use Rattle.script_bytes.specs.Encoding.{pushBytes};
 ghost use Rattle.script_bytes.specs.ScriptOf.{hasKeys, hasEntries};
 ghost use Rattle.script_bytes.specs.Layout.{verifyByte, testByte, numberBytes, bytesOf, keysBytes, sigSumBytes};
 ghost use Rattle.script_leaves.specs.Laying.{clip, Lays, EntrySize, onlyKeys};
-ghost use Rattle.script_leaves.specs.Leaves.{numbered, leafOf, keysIn, multiOf, multiAOf};
-use records::kind_of;
-use records::u16_or_zero;
-use records::u32_or_zero;
+ghost use Rattle.script_leaves.specs.Leaves.{numbered, leafOf, multiOf, multiAOf};
 use contexts::Context;
+use records::count_of;
+use records::k_of;
+use records::key_at;
+use records::kind_of;
+use records::number_of;
 
 // The largest position.
 const MAX_POSITION: usize = 18446744073709551615;
@@ -315,14 +317,14 @@ fn put_keys(
     bytes: &[u8],
     count: u16,
 ) -> usize
-    requires { ⌜ hasKeys context (onlyKeys (now keys)) (u32s (now bytes) 8 count) ≡ true ⌝ }
+    requires { ⌜ hasKeys context (onlyKeys (now keys)) (firstKeys (now bytes) count) ≡ true ⌝ }
     ensures { λ r. ⌜ Lays (now (out .entry)) (now (out .exit)) at
-        (keysBytes context (onlyKeys (now (keys .entry))) (u32s (now (bytes .entry)) 8 count)) r ⌝ }
+        (keysBytes context (onlyKeys (now (keys .entry))) (firstKeys (now (bytes .entry)) count)) r ⌝ }
 {
     let mut to = at;
     let mut j = 0;
     while j < count {
-        let i = u32_or_zero(bytes, 8 + 4 * (j as usize));
+        let i = key_at(bytes, j);
         to = put_key(out, to, context, keys, i);
         j += 1;
     }
@@ -338,15 +340,15 @@ fn put_sig_sum(
     bytes: &[u8],
     count: u16,
 ) -> usize
-    requires { ⌜ hasKeys context (onlyKeys (now keys)) (u32s (now bytes) 8 count) ≡ true ⌝ }
+    requires { ⌜ hasKeys context (onlyKeys (now keys)) (firstKeys (now bytes) count) ≡ true ⌝ }
     ensures { λ r. ⌜ Lays (now (out .entry)) (now (out .exit)) at
-        (sigSumBytes context (onlyKeys (now (keys .entry))) (u32s (now (bytes .entry)) 8 count)) r ⌝ }
+        (sigSumBytes context (onlyKeys (now (keys .entry))) (firstKeys (now (bytes .entry)) count)) r ⌝ }
 {
     let mut to = at;
     let mut opcode = CHECKSIG;
     let mut j = 0;
     while j < count {
-        let i = u32_or_zero(bytes, 8 + 4 * (j as usize));
+        let i = key_at(bytes, j);
         let next = put_key(out, to, context, keys, i);
         to = put(out, next, opcode);
         opcode = CHECKSIGADD;
@@ -368,8 +370,8 @@ fn lay_multi(
     ensures { λ r. ⌜ Lays (now (out .entry)) (now (out .exit)) at
         (bytesOf context (onlyKeys (now (keys .entry))) verified (multiOf (now (bytes .entry)))) r ⌝ }
 {
-    let k = u16_or_zero(bytes, 4);
-    let count = u16_or_zero(bytes, 6);
+    let k = k_of(bytes);
+    let count = count_of(bytes);
     let list = put_number(out, at, k as u32);
     let to = put_keys(out, list, context, keys, bytes, count);
     put_counted(out, to, count as u32, CHECKMULTISIG, verified)
@@ -388,8 +390,8 @@ fn lay_multi_a(
     ensures { λ r. ⌜ Lays (now (out .entry)) (now (out .exit)) at
         (bytesOf context (onlyKeys (now (keys .entry))) verified (multiAOf (now (bytes .entry)))) r ⌝ }
 {
-    let k = u16_or_zero(bytes, 4);
-    let count = u16_or_zero(bytes, 6);
+    let k = k_of(bytes);
+    let count = count_of(bytes);
     let to = put_sig_sum(out, at, context, keys, bytes, count);
     put_counted(out, to, k as u32, NUMEQUAL, verified)
 }
@@ -416,7 +418,7 @@ pub fn lay_leaf(
         57 => lay_multi(out, at, context, keys, bytes, verified),
         58 => lay_multi_a(out, at, context, keys, bytes, verified),
         _ => {
-            let n = u32_or_zero(bytes, 4);
+            let n = number_of(bytes);
             lay_numbered(
                 out,
                 at,

@@ -1,4 +1,4 @@
--- The rules and the number of children by kind, a range of kinds at a time. Assumes nothing.
+-- The rules by kind, a range of kinds at a time. Assumes nothing.
 use Prim.Native.Nat.{ℕ, zero, suc, _+_, _-_, _≤_, _<_}
 use mathlib.Core.List.{List, [], _∷_}
 use mathlib.Core.Option.{none, some}
@@ -6,6 +6,8 @@ use mathlib.Core.Path.{_≡_, refl, sym, ap, subst, _∙_}
 use native.Mathlib.Omega.{arith}
 use borrow.Author.Tests.{le-leb, lt-leb, ne-eqb, le-ltb}
 use lib.ListN.{length, getD, take}
+use Rattle.records.specs.Shapes.{arity}
+use Rattle.records.proofs.Arities.{arity-one, arity-two, arity-below, arity-above}
 use Rattle.types.specs.declared.«Type».{«Type»}
 use Rattle.types.specs.declared.TypeResult.{TypeResult}
 use Rattle.types.specs.TypeRules as rule
@@ -15,7 +17,7 @@ use Rattle.trees.specs.Reading.{Answer, done}
 use Rattle.trees.specs.Tree.{find}
 use Rattle.trees.specs.Typing.{inSegwitv0, inTap}
 use Rattle.trees.specs.Rules.{answered, ruleOf}
-use Rattle.trees.specs.WorkMemory.{arity, slotOf, unpacked}
+use Rattle.trees.specs.WorkMemory.{slotOf, unpacked}
 
 -- ---- kinds, one by one
 
@@ -29,29 +31,6 @@ hash-rule kind l h c k = by-kind (kind - 38) (omega arith) (omega arith)
     by-kind (suc (suc zero)) e h = rw e
     by-kind (suc (suc (suc zero))) e h = rw e
     by-kind (suc (suc (suc (suc n)))) e h = absurd (omega arith)
-
--- ---- how many children
-
-pub arity-one : (kind count : ℕ) → 42 ≤ kind → kind ≤ 48 → 1 ≡ arity kind count
-arity-one kind count l h = simp (le-leb 42 kind l, le-leb kind 48 h)
-
-pub arity-two : (kind count : ℕ) → 49 ≤ kind → kind ≤ 54 → 2 ≡ arity kind count
-arity-two kind count l h = simp (le-leb 42 kind (omega arith), lt-leb kind 48 (omega arith), le-leb 49 kind l, le-leb kind 54 h)
-
-pub arity-below : (kind count : ℕ) → kind < 42 → 0 ≡ arity kind count
-arity-below kind count h =
-    simp (lt-leb 42 kind h, lt-leb 49 kind (omega arith), ne-eqb kind 55 (omega arith), ne-eqb kind 56 (omega arith))
-
-pub arity-above : (kind count : ℕ) → 56 < kind → 0 ≡ arity kind count
-arity-above kind count h =
-    simp (
-      le-leb 42 kind (omega arith),
-      lt-leb kind 48 (omega arith),
-      le-leb 49 kind (omega arith),
-      lt-leb kind 54 (omega arith),
-      ne-eqb kind 55 (omega arith),
-      ne-eqb kind 56 (omega arith),
-    )
 
 -- ---- a rule over the children in an array
 
@@ -118,8 +97,3 @@ slot-small zero h = absurd (omega arith)
 slot-small (suc n) h =
     let e : suc n - 1 ≡ n = omega arith in
     rw e
-
--- ---- what is left after some keys of a match
-
-pub past : {n kind : ℕ} → n ≤ kind → (kind ≡ n → ⊥) → suc n ≤ kind
-past l f = omega arith

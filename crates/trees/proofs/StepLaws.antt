@@ -18,10 +18,12 @@ use Rattle.trees.specs.declared.Step.{Step}
 use Rattle.trees.specs.declared.Step.the-variants as Step
 use Rattle.trees.specs.Reading.{done, _>>=_, Taken, takeAll, addRecord}
 use Rattle.trees.specs.Rules.{answered, ruleOf, makeType}
-use Rattle.trees.specs.WorkMemory.{slotsIn, freeIn, childrenTaken, arity, Stepped}
+use Rattle.trees.specs.WorkMemory.{slotsIn, freeIn, childrenTaken, Stepped}
+use Rattle.records.specs.Shapes.{arity}
 use Rattle.trees.proofs.Slots.{IfSome}
 use Rattle.trees.proofs.Counting.{free-more, free-taken}
-use Rattle.trees.proofs.RecordLaws.{Found, own-children, same-children, added-unfit, added-untaken, added}
+use Rattle.records.proofs.Arities.{Found, own-children, same-children}
+use Rattle.trees.proofs.RecordLaws.{added-unfit, added-untaken, added}
 
 -- a record whose children have been looked for
 pub record Took (s work₀ work : List ℕ) (read : ℕ) (parts : Parts) (kind n : ℕ) (r : Children) : Type 0 where

@@ -5,9 +5,7 @@ use mathlib.Core.Bool.{cond}
 use mathlib.Core.List.{List, [], _∷_, map}
 use mathlib.Core.Option.{Option, none, some}
 use mathlib.Core.Path.{_≡_}
-use lib.Dec.{eqb}
 use lib.ListN.{length, take}
-use Rattle.records.specs.Numbers.{between}
 use Rattle.types.specs.declared.«Type».{«Type»}
 use Rattle.types.specs.declared.Unpacked.{Unpacked}
 use Rattle.types.specs.declared.Unpacked.the-variants.{Is, NotAType}
@@ -49,14 +47,6 @@ slotAnswer none = Slot.Taken
 -- n children that were looked for in the slots, and what is left of them
 abbrev pub childrenTaken : Children → (n : ℕ) → Slots «Type» → Option (Taken «Type»)
 childrenTaken r n slots = cond (r .taken) (some (record { those = take n (r .types); left = slots })) none
-
--- how many children a record of this kind has, that has so many children or keys
-abbrev pub arity : (kind count : ℕ) → ℕ
-arity kind count =
-    cond (between 42 48 kind) 1
-    (cond (between 49 54 kind) 2
-    (cond (eqb kind 55) 3
-    (cond (eqb kind 56) count 0)))
 
 -- the slots after a record
 abbrev pub stepAnswer : Step → Slots «Type» → Answer (Slots «Type»)

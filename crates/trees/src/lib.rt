@@ -14,7 +14,8 @@ ghost use Rattle.trees.specs.Reading.{done, orRefuse, badTree, maxRecord
 ghost use Rattle.trees.specs.Rules.{answered, ruleOf, makeType};
 ghost use Rattle.trees.specs.TreeCheck.{checkOf, checkIn};
 ghost use Rattle.trees.specs.Checked.{answerOf, typeOnly};
-ghost use Rattle.trees.specs.WorkMemory.{slotOf, slotsIn, slotAnswer, childrenTaken, arity, Stepped};
+ghost use Rattle.trees.specs.WorkMemory.{slotOf, slotsIn, slotAnswer, childrenTaken, Stepped};
+ghost use Rattle.records.specs.Shapes.{arity};
 ghost use Rattle.words.specs.Memory.{zeroed};
 use records::RecordLength;
 use contexts::Context;
@@ -124,19 +125,6 @@ fn multi_a_type(context: Context) -> TypeResult
     }
 }
 
-// How many children a record of this kind has, that has `count` children or keys.
-fn arity(kind: u16, count: usize) -> usize
-    ensures { λ n. ⌜ n ≡ arity kind count ⌝ }
-{
-    match kind {
-        42..=48 => 1,
-        49..=54 => 2,
-        55 => 3,
-        56 => count,
-        _ => 0,
-    }
-}
-
 // What a word of work memory holds.
 fn slot_of(word: u64) -> Slot
     ensures { λ s. ⌜ s ≡ slotAnswer (slotOf word) ⌝ }
@@ -239,7 +227,7 @@ fn check_record(context: Context, bytes: &[u8], work: &mut [u64], read: usize) -
     if fits {
         let kind = records::kind_of(bytes);
         let count = parts.count;
-        let n = arity(kind, count);
+        let n = records::arity(kind, count);
         let numbers = parts.children;
         let children = take_children(work, read, numbers, n);
         let taken = children.taken;

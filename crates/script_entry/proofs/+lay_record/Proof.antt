@@ -7,7 +7,7 @@ use native.Mathlib.Omega.{arith}
 use borrow.Author.Needs.{needs}
 use lib.ListN.{getD}
 use Rattle.script_bytes.specs.Tables.{tables}
-use Rattle.script_bytes.specs.Rows.{fragmentAt}
+use Rattle.walk.specs.TreeRecords.{fragmentAt}
 use Rattle.script_leaves.specs.Laying.{Lays}
 use Rattle.script_entry.specs.Pieces.{upTo}
 use borrow.Fn.Kinds.{In}
@@ -17,7 +17,7 @@ use Rattle.script_entry.proofs.lay_record.Kinds as lay-record-kinds
 use Rattle.script_entry.proofs.+lay_record.Lts-lay_record as lay-record-lts
 use Rattle.script_entry.proofs.child_verified.Reads as child-verified-reads
 use Rattle.script_entry.proofs.lay_leaf_at.Reads as lay-leaf-at-reads
-use Rattle.script_entry.proofs.node_at.Reads as node-at-reads
+use Rattle.walk.proofs.node_at.Reads as node-at-reads
 use Rattle.script_entry.proofs.place.Reads as place-reads
 use Rattle.script_entry.proofs.put_after.Reads as put-after-reads
 use Rattle.script_entry.proofs.put_front.Reads as put-front-reads

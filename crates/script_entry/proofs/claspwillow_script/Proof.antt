@@ -1,7 +1,8 @@
 -- `script_entry::claspwillow_script` keeps its promise: the check refuses, or the tree has its script. Assumes nothing.
 use mathlib.Core.Path.{_∙_}
 use Rattle.script_bytes.specs.Tables.{tables}
-use Rattle.script_entry.proofs.Promised.{passed, written, same-room, refusal, script}
+use Rattle.claspwillow.proofs.CheckLaws.{passed, same-room}
+use Rattle.script_entry.proofs.Promised.{written, refusal, script}
 use borrow.Author.Needs.{needs}
 use Rattle.script_entry.proofs.claspwillow_script.Statement.{statement}
 use Rattle.script_entry.proofs.claspwillow_script.Tie as tie

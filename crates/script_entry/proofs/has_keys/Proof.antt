@@ -2,7 +2,7 @@
 use Prim.Native.Nat.{ℕ, _-_, _≤_}
 use mathlib.Core.Path.{ap, _∙_}
 use native.Mathlib.Omega.{arith}
-use Rattle.records.specs.Numbers.{u32s}
+use Rattle.records.specs.Payloads.{firstKeys}
 use Rattle.script_bytes.specs.ScriptOf.{hasKeys}
 use Rattle.script_leaves.specs.Laying.{onlyKeys}
 use Rattle.script_entry.proofs.Entries.{KeysToCome, keys-begin, keys-more, keys-done}
@@ -15,25 +15,16 @@ Inv-loop context keys bytes count all₀ j₀ all j = KeysToCome context (onlyKe
 abbrev μ-loop : tie.MeasureT-loop
 μ-loop context keys bytes count all₀ j₀ all j = count - j
 
-u16-or-zero-requires : tie.Need-u16-or-zero-requires Inv-loop μ-loop
-u16-or-zero-requires c κs = tt
+count-of-requires : tie.Need-count-of-requires Inv-loop μ-loop
+count-of-requires c κs = tt
 
 loop-holds : tie.Need-loop-holds Inv-loop μ-loop
 loop-holds c =
     let args = c .before .before .before .args in
-    (keys-begin (args .context) (onlyKeys (args .keys .now)) (args .bytes .now) (c .u16-or-zero .result), omega arith)
+    (keys-begin (args .context) (onlyKeys (args .keys .now)) (args .bytes .now) (c .count-of .result), omega arith)
 
-cast-u32-or-zero : tie.Need-cast-u32-or-zero Inv-loop μ-loop
-cast-u32-or-zero c = omega arith
-
-mul-u32-or-zero : tie.Need-mul-u32-or-zero Inv-loop μ-loop
-mul-u32-or-zero c = omega arith
-
-add-u32-or-zero : tie.Need-add-u32-or-zero Inv-loop μ-loop
-add-u32-or-zero c = omega arith
-
-u32-or-zero-requires : tie.Need-u32-or-zero-requires Inv-loop μ-loop
-u32-or-zero-requires c κs = tt
+key-at-requires : tie.Need-key-at-requires Inv-loop μ-loop
+key-at-requires c κs = tt
 
 has-key-requires : tie.Need-has-key-requires Inv-loop μ-loop
 has-key-requires c κs = tt
@@ -50,23 +41,23 @@ loop-less c = omega arith
 loop-again : tie.Need-loop-again Inv-loop μ-loop
 loop-again c =
     let args = c .before .before .before .before .before .before .before .before .args in
-    let u16-or-zero = c .before .before .before .before .before .u16-or-zero in
+    let count-of = c .before .before .before .before .before .count-of in
     let loop = c .before .before .before .before .loop in
     let loop-test = c .before .before .before .loop-test in
-    let u32-or-zero = c .before .before .u32-or-zero in
+    let key-at = c .before .before .key-at in
     let has-key = c .before .has-key in (
-      keys-more (args .context) (onlyKeys (args .keys .now)) (args .bytes .now) (u16-or-zero .result) (loop .j) _ (loop .all) (loop-test .taken)
-          (u32-or-zero .ensures) (has-key .ensures) (c .both .ensures) (loop .inv .0),
+      keys-more (args .context) (onlyKeys (args .keys .now)) (args .bytes .now) (count-of .result) (loop .j) _ (loop .all) (loop-test .taken)
+          (key-at .ensures) (has-key .ensures) (c .both .ensures) (loop .inv .0),
       omega (arith, loop-test .taken),
     )
 
 returns : tie.Need-returns Inv-loop μ-loop
 returns c =
     let args = c .before .before .before .before .before .args in
-    let u16-or-zero = c .before .before .u16-or-zero in
+    let count-of = c .before .before .count-of in
     let loop = c .before .loop in
-    keys-done (args .context) (onlyKeys (args .keys .now)) (args .bytes .now) (u16-or-zero .result) (loop .j) (loop .all) (c .loop-test .left)
-    (loop .inv .0) ∙ ap (λ (n : ℕ). hasKeys (args .context) (onlyKeys (args .keys .now)) (u32s (args .bytes .now) 8 n)) (u16-or-zero .ensures)
+    keys-done (args .context) (onlyKeys (args .keys .now)) (args .bytes .now) (count-of .result) (loop .j) (loop .all) (c .loop-test .left)
+    (loop .inv .0) ∙ ap (λ (n : ℕ). hasKeys (args .context) (onlyKeys (args .keys .now)) (firstKeys (args .bytes .now) n)) (count-of .ensures)
 
 pub has-keys-spec : {M : Type 1} → statement M
 has-keys-spec =
@@ -74,12 +65,9 @@ has-keys-spec =
     (tie.spec
     Inv-loop
     μ-loop
-    u16-or-zero-requires
+    count-of-requires
     loop-holds
-    cast-u32-or-zero
-    mul-u32-or-zero
-    add-u32-or-zero
-    u32-or-zero-requires
+    key-at-requires
     has-key-requires
     both-requires
     add-j

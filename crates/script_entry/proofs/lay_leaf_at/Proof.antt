@@ -5,7 +5,7 @@ use Rattle.script_bytes.specs.Tables.{tables}
 use Rattle.script_bytes.specs.Layout.{bytesOf}
 use Rattle.script_leaves.specs.Leaves.{leafOf}
 use Rattle.script_leaves.proofs.Laws.{laid-as}
-use Rattle.script_entry.proofs.Reading.{ends-inside, its-bytes}
+use Rattle.walk.proofs.Laws.{ends-inside, its-bytes}
 use borrow.Author.Needs.{needs}
 use Rattle.script_entry.proofs.lay_leaf_at.Statement.{statement}
 use Rattle.script_entry.proofs.lay_leaf_at.Tie as tie

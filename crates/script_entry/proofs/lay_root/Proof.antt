@@ -1,6 +1,6 @@
 -- `script_entry::lay_root` meets its contract: the first run measures and writes nothing, the second writes what fits. Assumes nothing.
 use Rattle.script_bytes.specs.Tables.{tables}
-use Rattle.script_bytes.specs.Rows.{fragmentAt}
+use Rattle.walk.specs.TreeRecords.{fragmentAt}
 use Rattle.script_entry.proofs.Runs.{fits, too-long}
 use borrow.Author.Needs.{needs}
 use Rattle.script_entry.proofs.lay_root.Statement.{statement}

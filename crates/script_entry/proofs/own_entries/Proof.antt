@@ -2,15 +2,15 @@
 use Prim.Native.Nat.{ℕ}
 use mathlib.Core.Path.{ap, _∙_}
 use Rattle.script_bytes.specs.Tables.{tables, whole, keySize}
-use Rattle.script_leaves.specs.Leaves.{keysIn}
+use Rattle.records.specs.Payloads.{keysIn}
 use Rattle.script_entry.proofs.Entries.{same-keys, key-entry, key-hash-entry, sha256-entry, hash256-entry, ripemd160-entry, hash160-entry}
 use Rattle.script_entry.proofs.Entries.{multi-entries, multi-a-entries, other-entry}
 use borrow.Author.Needs.{needs}
 use Rattle.script_entry.proofs.own_entries.Statement.{statement}
 use Rattle.script_entry.proofs.own_entries.Tie as tie
 
-u32-or-zero-requires : tie.Need-u32-or-zero-requires
-u32-or-zero-requires c κs = search needs
+number-of-requires : tie.Need-number-of-requires
+number-of-requires c κs = search needs
 
 kind-of-requires : tie.Need-kind-of-requires
 kind-of-requires c κs = search needs
@@ -42,61 +42,61 @@ has-keys-requires-2 c κs = search needs
 returns : tie.Need-returns
 returns c =
     let args = c .before .before .before .before .before .before .before .before .before .args in
-    let u32-or-zero = c .before .before .before .u32-or-zero in
+    let number-of = c .before .before .before .number-of in
     let kind-of = c .before .before .kind-of in
     let match = c .before .match in
     let t = tables (args .keys .now) (args .key-hashes .now) (args .hashes32 .now) (args .hashes20 .now) in
-    c .has-key .ensures ∙ ap (λ (n : ℕ). whole (keySize (args .context)) (args .keys .now) n) (u32-or-zero .ensures) ∙ key-entry (args .context) t
+    c .has-key .ensures ∙ ap (λ (n : ℕ). whole (keySize (args .context)) (args .keys .now) n) (number-of .ensures) ∙ key-entry (args .context) t
     (args .bytes .now) (kind-of .ensures) (match .keys1)
 
 returns-2 : tie.Need-returns-2
 returns-2 c =
     let args = c .before .before .before .before .before .before .before .before .before .args in
-    let u32-or-zero = c .before .before .before .u32-or-zero in
+    let number-of = c .before .before .before .number-of in
     let kind-of = c .before .before .kind-of in
     let match = c .before .match in
     let t = tables (args .keys .now) (args .key-hashes .now) (args .hashes32 .now) (args .hashes20 .now) in
-    c .has-entry .ensures ∙ ap (λ (n : ℕ). whole 20 (args .key-hashes .now) n) (u32-or-zero .ensures) ∙ key-hash-entry (args .context) t (args
+    c .has-entry .ensures ∙ ap (λ (n : ℕ). whole 20 (args .key-hashes .now) n) (number-of .ensures) ∙ key-hash-entry (args .context) t (args
     .bytes .now) (kind-of .ensures) (match .keys2)
 
 returns-3 : tie.Need-returns-3
 returns-3 c =
     let args = c .before .before .before .before .before .before .before .before .before .args in
-    let u32-or-zero = c .before .before .before .u32-or-zero in
+    let number-of = c .before .before .before .number-of in
     let kind-of = c .before .before .kind-of in
     let match = c .before .match in
     let t = tables (args .keys .now) (args .key-hashes .now) (args .hashes32 .now) (args .hashes20 .now) in
-    c .has-entry2 .ensures ∙ ap (λ (n : ℕ). whole 32 (args .hashes32 .now) n) (u32-or-zero .ensures) ∙ sha256-entry (args .context) t (args .bytes
+    c .has-entry2 .ensures ∙ ap (λ (n : ℕ). whole 32 (args .hashes32 .now) n) (number-of .ensures) ∙ sha256-entry (args .context) t (args .bytes
     .now) (kind-of .ensures) (match .keys3)
 
 returns-4 : tie.Need-returns-4
 returns-4 c =
     let args = c .before .before .before .before .before .before .before .before .before .args in
-    let u32-or-zero = c .before .before .before .u32-or-zero in
+    let number-of = c .before .before .before .number-of in
     let kind-of = c .before .before .kind-of in
     let match = c .before .match in
     let t = tables (args .keys .now) (args .key-hashes .now) (args .hashes32 .now) (args .hashes20 .now) in
-    c .has-entry3 .ensures ∙ ap (λ (n : ℕ). whole 32 (args .hashes32 .now) n) (u32-or-zero .ensures) ∙ hash256-entry (args .context) t (args
+    c .has-entry3 .ensures ∙ ap (λ (n : ℕ). whole 32 (args .hashes32 .now) n) (number-of .ensures) ∙ hash256-entry (args .context) t (args
     .bytes .now) (kind-of .ensures) (match .keys4)
 
 returns-5 : tie.Need-returns-5
 returns-5 c =
     let args = c .before .before .before .before .before .before .before .before .before .args in
-    let u32-or-zero = c .before .before .before .u32-or-zero in
+    let number-of = c .before .before .before .number-of in
     let kind-of = c .before .before .kind-of in
     let match = c .before .match in
     let t = tables (args .keys .now) (args .key-hashes .now) (args .hashes32 .now) (args .hashes20 .now) in
-    c .has-entry4 .ensures ∙ ap (λ (n : ℕ). whole 20 (args .hashes20 .now) n) (u32-or-zero .ensures) ∙ ripemd160-entry (args .context) t (args
+    c .has-entry4 .ensures ∙ ap (λ (n : ℕ). whole 20 (args .hashes20 .now) n) (number-of .ensures) ∙ ripemd160-entry (args .context) t (args
     .bytes .now) (kind-of .ensures) (match .keys5)
 
 returns-6 : tie.Need-returns-6
 returns-6 c =
     let args = c .before .before .before .before .before .before .before .before .before .args in
-    let u32-or-zero = c .before .before .before .u32-or-zero in
+    let number-of = c .before .before .before .number-of in
     let kind-of = c .before .before .kind-of in
     let match = c .before .match in
     let t = tables (args .keys .now) (args .key-hashes .now) (args .hashes32 .now) (args .hashes20 .now) in
-    c .has-entry5 .ensures ∙ ap (λ (n : ℕ). whole 20 (args .hashes20 .now) n) (u32-or-zero .ensures) ∙ hash160-entry (args .context) t (args
+    c .has-entry5 .ensures ∙ ap (λ (n : ℕ). whole 20 (args .hashes20 .now) n) (number-of .ensures) ∙ hash160-entry (args .context) t (args
     .bytes .now) (kind-of .ensures) (match .keys6)
 
 returns-7 : tie.Need-returns-7
@@ -130,7 +130,7 @@ pub own-entries-spec : {M : Type 1} → statement M
 own-entries-spec =
     tie.close
     (tie.spec
-    u32-or-zero-requires
+    number-of-requires
     kind-of-requires
     has-key-requires
     has-entry-requires

@@ -27,8 +27,8 @@ lay-multi-a-requires c κs =
     multi-a-ready (args .context) (args .keys .now) (args .key-hashes .now) (args .hashes32 .now) (args .hashes20 .now) (args .verified)
     (args .bytes .now) pre (sym (kind-of .ensures) ∙ match .keys2)
 
-u32-or-zero-requires : tie.Need-u32-or-zero-requires
-u32-or-zero-requires c κs = tt
+number-of-requires : tie.Need-number-of-requires
+number-of-requires c κs = tt
 
 lay-numbered-requires : tie.Need-lay-numbered-requires
 lay-numbered-requires c κs =
@@ -37,8 +37,8 @@ lay-numbered-requires c κs =
     let t = tables (args .keys .now) (args .key-hashes .now) (args .hashes32 .now) (args .hashes20 .now) in
     let kind-of = c .before .before .before .kind-of in
     let match = c .before .before .match in
-    let u32-or-zero = c .before .u32-or-zero in
-    numbered-ready (args .context) t (args .verified) (args .bytes .now) _ _ (kind-of .ensures) (u32-or-zero .ensures) (match .rest .0 .1)
+    let number-of = c .before .number-of in
+    numbered-ready (args .context) t (args .verified) (args .bytes .now) _ _ (kind-of .ensures) (number-of .ensures) (match .rest .0 .1)
     (match .rest .1) pre
 
 same-length : tie.Need-same-length
@@ -74,9 +74,9 @@ returns-3 c =
     let t = tables (args .keys .now) (args .key-hashes .now) (args .hashes32 .now) (args .hashes20 .now) in
     let kind-of = c .before .before .before .before .before .before .kind-of in
     let match = c .before .before .before .before .before .match in
-    let u32-or-zero = c .before .before .before .before .u32-or-zero in
+    let number-of = c .before .before .before .before .number-of in
     let lay-numbered = c .before .before .lay-numbered in
-    laid-as (numbered-leaf (args .context) t (args .verified) (args .bytes .now) _ _ (kind-of .ensures) (u32-or-zero .ensures) (match .rest .0 .1)
+    laid-as (numbered-leaf (args .context) t (args .verified) (args .bytes .now) _ _ (kind-of .ensures) (number-of .ensures) (match .rest .0 .1)
     (match .rest .1)) (lay-numbered .ensures)
 
 pub lay-leaf-spec : {M : Type 1} → statement M
@@ -86,7 +86,7 @@ lay-leaf-spec =
     kind-of-requires
     lay-multi-requires
     lay-multi-a-requires
-    u32-or-zero-requires
+    number-of-requires
     lay-numbered-requires
     same-length
     returns

@@ -2,20 +2,19 @@
 use mathlib.Core.Bool.{true}
 use mathlib.Core.Path.{_≡_}
 use Prim.Native.Nat.{_-_, _≤_}
-use Rattle.records.specs.Numbers.{u32s}
+use Rattle.records.specs.Payloads.{firstKeys, keysFrom}
 use Rattle.script_bytes.specs.ScriptOf.{hasKeys}
 use Rattle.script_bytes.specs.Layout.{keysBytes}
 use Rattle.script_leaves.specs.Laying.{onlyKeys}
 use Rattle.script_leaves.proofs.Laws.{Coming, all-coming, more-coming, none-coming}
-use Rattle.script_leaves.proofs.Keys.{keysFrom, all-there, key-there, others-there, key-first, key-next, key-end}
+use Rattle.script_leaves.proofs.Keys.{all-there, key-there, others-there, key-first, key-next, key-end}
 use native.Mathlib.Omega.{arith}
 use Rattle.script_leaves.proofs.put_keys.Statement.{statement}
 use Rattle.script_leaves.proofs.put_keys.Tie as tie
-use Rattle.records.proofs.u32_or_zero.Reads as u32-or-zero-reads
 
 abbrev Inv-loop : tie.InvT-loop
 Inv-loop out₀ at context keys bytes count to₀ j₀ out to j =
-    Coming out₀ at (keysBytes context (onlyKeys keys) (u32s bytes 8 count)) out to (keysBytes context (onlyKeys keys) (keysFrom bytes count j))
+    Coming out₀ at (keysBytes context (onlyKeys keys) (firstKeys bytes count)) out to (keysBytes context (onlyKeys keys) (keysFrom bytes count j))
     × (hasKeys context (onlyKeys keys) (keysFrom bytes count j) ≡ true)
     × (j ≤ count)
 
@@ -32,25 +31,16 @@ loop-holds c =
       omega arith,
     )
 
-cast-u32-or-zero : tie.Need-cast-u32-or-zero Inv-loop μ-loop
-cast-u32-or-zero c = omega arith
-
-mul-u32-or-zero : tie.Need-mul-u32-or-zero Inv-loop μ-loop
-mul-u32-or-zero c = omega arith
-
-add-u32-or-zero : tie.Need-add-u32-or-zero Inv-loop μ-loop
-add-u32-or-zero c = omega arith
-
-u32-or-zero-requires : tie.Need-u32-or-zero-requires Inv-loop μ-loop
-u32-or-zero-requires c κs = tt
+key-at-requires : tie.Need-key-at-requires Inv-loop μ-loop
+key-at-requires c κs = tt
 
 put-key-requires : tie.Need-put-key-requires Inv-loop μ-loop
 put-key-requires c κs =
     let args = c .before .before .before .before .before .before .before .args in
     let loop = c .before .before .before .loop in
     let loop-test = c .before .before .loop-test in
-    let u32-or-zero = c .before .u32-or-zero in
-    key-there (args .context) (onlyKeys (args .keys .now)) (args .bytes .now) (args .count) (loop .j) _ (u32-or-zero .ensures) (loop-test .taken)
+    let key-at = c .before .key-at in
+    key-there (args .context) (onlyKeys (args .keys .now)) (args .bytes .now) (args .count) (loop .j) _ (key-at .ensures) (loop-test .taken)
     (loop .inv .1)
 
 add-j : tie.Need-add-j Inv-loop μ-loop
@@ -64,7 +54,7 @@ loop-again c =
     let args = c .before .before .before .before .before .before .before .before .before .before .args in
     let loop = c .before .before .before .before .before .before .loop in
     let loop-test = c .before .before .before .before .before .loop-test in
-    let number = c .before .before .before .before .u32-or-zero in
+    let number = c .before .before .before .before .key-at in
     let t = onlyKeys (args .keys .now) in
     let h = loop-test .taken in (
       more-coming (key-next (args .context) t (args .bytes .now) (args .count) (loop .j) _ (number .ensures) h)
@@ -90,10 +80,7 @@ put-keys-spec =
     Inv-loop
     μ-loop
     loop-holds
-    cast-u32-or-zero
-    mul-u32-or-zero
-    add-u32-or-zero
-    u32-or-zero-requires
+    key-at-requires
     put-key-requires
     add-j
     loop-less

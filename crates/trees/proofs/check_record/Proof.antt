@@ -1,7 +1,7 @@
 -- `trees::check_record` meets its contract: the children are taken, the rule of the kind answers, and the slot is added. Assumes nothing.
 use borrow.Author.Needs.{needs}
 use native.Mathlib.Omega.{arith}
-use Rattle.trees.proofs.RecordLaws.{Found, found, not-found, few-children, rule-needs}
+use Rattle.records.proofs.Arities.{Found, found, not-found, few-children, rule-needs}
 use Rattle.trees.proofs.StepLaws.{Took, stepped-unfit, stepped-untaken, stepped-ill, stepped-next}
 use Rattle.trees.proofs.check_record.Statement.{statement}
 use Rattle.trees.proofs.check_record.Tie as tie

@@ -1,7 +1,8 @@
 -- `trees::leaf_type` meets its contract: a kind at a time, the hashes last. Assumes nothing.
 use borrow.Author.Needs.{needs}
 use Rattle.trees.specs.Tree.{find}
-use Rattle.trees.proofs.ByKind.{past, hash-rule}
+use Rattle.records.proofs.Arities.{past}
+use Rattle.trees.proofs.ByKind.{hash-rule}
 use Rattle.trees.proofs.leaf_type.Statement.{statement}
 use Rattle.trees.proofs.leaf_type.Tie as tie
 

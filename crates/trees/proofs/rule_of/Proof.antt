@@ -3,7 +3,8 @@ use borrow.Author.Needs.{needs}
 use mathlib.Core.Path.{_≡_}
 use native.Mathlib.Omega.{arith}
 use lib.ListN.{length}
-use Rattle.trees.proofs.ByKind.{past, rule-none, rule-one, rule-two, rule-three, rule-all, rule-multi, rule-multi-a}
+use Rattle.records.proofs.Arities.{past}
+use Rattle.trees.proofs.ByKind.{rule-none, rule-one, rule-two, rule-three, rule-all, rule-multi, rule-multi-a}
 use Rattle.trees.proofs.rule_of.Statement.{statement}
 use Rattle.trees.proofs.rule_of.Tie as tie
 

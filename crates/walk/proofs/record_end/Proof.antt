@@ -1,9 +1,9 @@
--- `script_entry::record_end` meets its contract: a record that is broken has no length. Assumes nothing.
+-- `walk::record_end` meets its contract: a record that is broken has no length. Assumes nothing.
 use native.Mathlib.Omega.{arith}
-use Rattle.script_entry.proofs.Reading.{end-inside, end-whole, end-broken}
+use Rattle.walk.proofs.Reading.{end-inside, end-whole, end-broken}
 use borrow.Author.Needs.{needs}
-use Rattle.script_entry.proofs.record_end.Statement.{statement}
-use Rattle.script_entry.proofs.record_end.Tie as tie
+use Rattle.walk.proofs.record_end.Statement.{statement}
+use Rattle.walk.proofs.record_end.Tie as tie
 
 length-at-requires : tie.Need-length-at-requires
 length-at-requires c κs = search needs

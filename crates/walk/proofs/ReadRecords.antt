@@ -1,4 +1,4 @@
--- What reading a tree leaves, record by record: slots whose free ones hold the fragments of specs/Rows.antt. Assumes nothing.
+-- What reading a tree leaves, record by record: slots whose free ones hold the fragments of specs/TreeRecords.antt. Assumes nothing.
 use Prim.Native.Nat.{ℕ, zero, suc, _+_, _-_, _≤_, _<_}
 use mathlib.Core.Bool.{Bool, true, false}
 use mathlib.Core.List.{List, [], _∷_, _++_, map}
@@ -17,8 +17,7 @@ use Rattle.trees.specs.Fragment.{Fragment, False}
 use Rattle.trees.specs.Reading.{Answer, refused, done, _>>=_, orRefuse, badTree, maxRecords}
 use Rattle.trees.specs.Reading.{Slots, Taken, andFirst, takeAll, rootOf, addMade, addPayload, addRecord, readFrom, readTree}
 use Rattle.trees.specs.Tree.{fragmentOf, makeFragment, treeOf}
-use Rattle.trees.proofs.Slots.{Pairs, empty, pair, pairs-length, pairs-more}
-use Rattle.script_bytes.specs.Rows.{lengthFrom, startOf, recordAt, orFalse, madeOf, fragmentsOf, fragmentAt, Row}
+use Rattle.walk.specs.TreeRecords.{lengthFrom, startOf, recordAt, orFalse, madeOf, fragmentsOf, fragmentAt, TreeRecord}
 
 -- ---- what an answer that is done tells
 
@@ -115,11 +114,24 @@ module _ (tree : List ℕ) (f : Fragment) where
 
 -- ---- the slots beside the fragments: what is free is the record's own fragment
 
-abbrev Agrees : Option Fragment → Fragment → Type 0
+abbrev pub Agrees : Option Fragment → Fragment → Type 0
 Agrees none f = Unit
 Agrees (some g) f = g ≡ f
 
-agrees-at : {slots : Slots Fragment} {fs : List Fragment} → Pairs Agrees slots fs → (j : ℕ) {g : Fragment} → getD slots j none ≡ some g
+pub data Beside : Slots Fragment → List Fragment → Type 0 where
+  empty : Beside [] []
+  pair : {x : Option Fragment} {y : Fragment} {xs : Slots Fragment} {ys : List Fragment} → Agrees x y → Beside xs ys → Beside (x ∷ xs) (y ∷ ys)
+
+beside-length : {xs : Slots Fragment} {ys : List Fragment} → Beside xs ys → length xs ≡ length ys
+beside-length empty = refl
+beside-length (pair p ps) = ap suc (beside-length ps)
+
+beside-more : {xs : Slots Fragment} {ys : List Fragment} (x : Option Fragment) (y : Fragment) → Beside xs ys → Agrees x y
+    → Beside (xs ++ (x ∷ [])) (ys ++ (y ∷ []))
+beside-more x y empty r = pair r empty
+beside-more x y (pair q qs) r = pair q (beside-more x y qs r)
+
+agrees-at : {slots : Slots Fragment} {fs : List Fragment} → Beside slots fs → (j : ℕ) {g : Fragment} → getD slots j none ≡ some g
     → (g ≡ getD fs j False) × (j < length fs)
 agrees-at empty zero e = absurd (let z : _≡_ {A = ℕ} 0 1 = cc in omega arith)
 agrees-at empty (suc j) e = absurd (let z : _≡_ {A = ℕ} 0 1 = cc in omega arith)
@@ -131,7 +143,7 @@ agrees-at (pair p ps) (suc j) e =
     let h = agrees-at ps j e in
     (h .0, omega (arith, h .1))
 
-agrees-set : {slots : Slots Fragment} {fs : List Fragment} → Pairs Agrees slots fs → (j : ℕ) → Pairs Agrees (set slots j none) fs
+agrees-set : {slots : Slots Fragment} {fs : List Fragment} → Beside slots fs → (j : ℕ) → Beside (set slots j none) fs
 agrees-set empty zero = empty
 agrees-set empty (suc j) = empty
 agrees-set (pair p ps) zero = pair tt ps
@@ -148,17 +160,17 @@ first-done none r e = absurd (let z : _≡_ {A = ℕ} 0 1 = cc in omega arith)
 
 record TakenFrom (fs : List Fragment) (js : List ℕ) (t : Taken Fragment) : Type 0 where
   those : t .those ≡ map (λ j. getD fs j False) js
-  left : Pairs Agrees (t .left) fs
+  left : Beside (t .left) fs
   before : (k : ℕ) → k < length js → getD js k 0 < length fs
 
-taken-from : (js : List ℕ) (slots : Slots Fragment) (fs : List Fragment) {t : Taken Fragment} → Pairs Agrees slots fs
+taken-from : (js : List ℕ) (slots : Slots Fragment) (fs : List Fragment) {t : Taken Fragment} → Beside slots fs
     → takeAll js slots ≡ some t → TakenFrom fs js t
 unfolding takeAll
 taken-from [] slots fs {t} ps e =
     let is : t ≡ record { those = []; left = slots } = cc in
     record {
       those = ap (λ (t : Taken Fragment). t .those) is;
-      left = subst (λ (l : Slots Fragment). Pairs Agrees l fs) (sym (ap (λ (t : Taken Fragment). t .left) is)) ps;
+      left = subst (λ (l : Slots Fragment). Beside l fs) (sym (ap (λ (t : Taken Fragment). t .left) is)) ps;
       before = λ k h. absurd (omega arith);
     }
 taken-from (j ∷ js) slots fs {t} ps e =
@@ -167,7 +179,7 @@ taken-from (j ∷ js) slots fs {t} ps e =
     let rest = taken-from js (set slots j none) fs (agrees-set ps j) (d .3) in
     record {
       those = d .4 ∙ rw (x .0, rest .those);
-      left = subst (λ (l : Slots Fragment). Pairs Agrees l fs) (sym (d .5)) (rest .left);
+      left = subst (λ (l : Slots Fragment). Beside l fs) (sym (d .5)) (rest .left);
       before = before (x .1) (rest .before);
     }
   where
@@ -217,18 +229,18 @@ module _ (tree : List ℕ) where
   all-kept n (j ∷ js) h =
       rw (fragments-kept n j (h 0 (omega arith)), all-kept n js (λ k l. h (suc k) (omega arith)))
 
-  pub agrees : {n : ℕ} {slots : Slots Fragment} → Read tree n slots → Pairs Agrees slots (fragmentsOf tree n)
+  pub agrees : {n : ℕ} {slots : Slots Fragment} → Read tree n slots → Beside slots (fragmentsOf tree n)
   unfolding fragmentsOf
   agrees start = empty
   agrees (next {n} {slots} len p t f r l e k g) =
       let from = taken-from (childrenOf p) slots (fragmentsOf tree n) (agrees r) k in
-      pairs-more Agrees (from .left) (sym (last-made n e (from .those) g))
+      beside-more (some f) _ (from .left) (sym (last-made n e (from .those) g))
 
   -- the last record read is a row
   pub last-row : (n : ℕ) (slots : Slots Fragment) (len : ℕ) (p : Payload) (t : Taken Fragment) (f : Fragment) → Read tree n slots
       → recordLength (drop (startOf tree n) tree) ≡ some len → fragmentPayload (recordAt tree n) ≡ some p
       → takeAll (childrenOf p) slots ≡ some t → fragmentOf (kindOf (recordAt tree n)) p (t .those) ≡ some f
-      → (fragmentAt tree n ≡ f) × Row tree n
+      → (fragmentAt tree n ≡ f) × TreeRecord tree n
   last-row n slots len p t f r l e k g =
       let from = taken-from (childrenOf p) slots (fragmentsOf tree n) (agrees r) k in
       let own = last-fragment n (last-made n e (from .those) g) in
@@ -246,26 +258,26 @@ module _ (tree : List ℕ) where
         },
       )
 
-  pub rows-read : {n : ℕ} {slots : Slots Fragment} → Read tree n slots → (i : ℕ) → i < n → Row tree i
+  pub rows-read : {n : ℕ} {slots : Slots Fragment} → Read tree n slots → (i : ℕ) → i < n → TreeRecord tree i
   rows-read start i h = absurd (omega arith)
   rows-read (next {n} {slots} len p t f r l e k g) i h = by-test (ltb i n) refl (λ l. rows-read r i l)
     where
-      by-test : (t : Bool) → ltb i n ≡ t → (i < n → Row tree i) → Row tree i
+      by-test : (t : Bool) → ltb i n ≡ t → (i < n → TreeRecord tree i) → TreeRecord tree i
       by-test true e rec = rec (ltb-true i n e)
       by-test false b rec =
           let same : n ≡ i = omega (arith, ltb-false i n b) in
-          subst (λ (i : ℕ). Row tree i) same (last-row n slots len p t f r l e k g .1)
+          subst (λ (i : ℕ). TreeRecord tree i) same (last-row n slots len p t f r l e k g .1)
 
 -- the root is the last record's fragment
-pub root-last : (n : ℕ) (slots : Slots Fragment) (fs : List Fragment) {f : Fragment} → Pairs Agrees slots fs → length fs ≡ n → rootOf slots ≡ some f
+pub root-last : (n : ℕ) (slots : Slots Fragment) (fs : List Fragment) {f : Fragment} → Beside slots fs → length fs ≡ n → rootOf slots ≡ some f
     → (0 < n) × (getD fs (n - 1) False ≡ f)
 unfolding rootOf
 root-last n [] [] empty l e = absurd (let z : _≡_ {A = ℕ} 0 1 = cc in omega arith)
 root-last n (o ∷ []) (y ∷ []) {f} (pair p empty) l e =
     let z : n - 1 ≡ 0 = omega arith in
     (omega arith, rw z (sym (subst (λ (o : Option Fragment). Agrees o y) e p)))
-root-last n (o ∷ []) (y ∷ z ∷ fs) (pair p ps) l e = absurd (omega (arith, pairs-length Agrees ps))
-root-last n (none ∷ o ∷ slots) (y ∷ []) (pair p ps) l e = absurd (omega (arith, pairs-length Agrees ps))
+root-last n (o ∷ []) (y ∷ z ∷ fs) (pair p ps) l e = absurd (omega (arith, beside-length ps))
+root-last n (none ∷ o ∷ slots) (y ∷ []) (pair p ps) l e = absurd (omega (arith, beside-length ps))
 root-last n (none ∷ o ∷ slots) (y ∷ z ∷ fs) {f} (pair p ps) l e =
     let rest = root-last (n - 1) (o ∷ slots) (z ∷ fs) ps (omega arith) e in
     let m : n - 1 ≡ suc (n - 1 - 1) = omega (arith, rest .0) in

@@ -1,10 +1,10 @@
--- `script_entry::node_at` meets its contract: what stands between the start and the end is record i. Assumes nothing.
+-- `walk::node_at` meets its contract: what stands between the start and the end is record i. Assumes nothing.
 use mathlib.Core.Path.{ap, _∙_}
-use Rattle.script_entry.specs.Nodes.{nodeOf}
-use Rattle.script_entry.proofs.Reading.{ends-inside, its-bytes}
+use Rattle.walk.specs.Nodes.{nodeOf}
+use Rattle.walk.proofs.Laws.{ends-inside, its-bytes}
 use borrow.Author.Needs.{needs}
-use Rattle.script_entry.proofs.node_at.Statement.{statement}
-use Rattle.script_entry.proofs.node_at.Tie as tie
+use Rattle.walk.proofs.node_at.Statement.{statement}
+use Rattle.walk.proofs.node_at.Tie as tie
 
 mul-start : tie.Need-mul-start
 mul-start c = search needs

@@ -11,24 +11,24 @@ use lib.ListN.{length, getD, take, length-take, drop-of-length-le}
 use lib.Seq.{drop-cons, getD-take, length-take-le}
 use Rattle.records.specs.declared.Shape.{Shape}
 use Rattle.records.specs.declared.Shape.the-variants as Shape
-use Rattle.records.specs.Numbers.{u16, u32, u16s, u32s, maxCount}
+use Rattle.records.specs.Numbers.{u16, u16s, maxCount}
 use Rattle.records.specs.Shapes.{rows}
 use Rattle.records.specs.Payloads.{Payload, nothing, number, children, threshold, keys, payloadOf, numberOf, kOf, countOf, childrenOf}
+use Rattle.records.specs.Payloads.{numberIn, kIn, countIn, firstKeys, keysIn}
 use Rattle.records.specs.RecordForm.{kindOf, fragmentPayload}
 use Rattle.records.specs.declared.Parts.{Parts}
 use Rattle.records.specs.Answers.{padded}
 use Rattle.records.proofs.KindRanges.{lookUpRange, shapes-in}
 use Rattle.records.proofs.Laws.{of-fragment, fragment-record, is-nothing, is-number, is-lock, is-one-child, is-two-children}
-use Rattle.records.proofs.Laws.{is-three-children, is-threshold, is-keys, padded-at}
+use Rattle.records.proofs.Laws.{is-three-children, is-threshold, is-keys, length-keys, padded-at}
 use Rattle.records.proofs.Laws as Laws
-use Rattle.records.proofs.Numbers.{length-u32s}
+use Rattle.records.proofs.Arities.{counts, padded-front}
 use Rattle.contexts.specs.Leaves.{After, Older, Sha256, Hash256, Ripemd160, Hash160}
 use Rattle.trees.specs.Fragment.{Fragment, end, _▹_, False, True, PkK, PkH, Lock, Hash}
 use Rattle.trees.specs.Fragment.{Alt, Swap, Check, DupIf, Verify, NonZero, ZeroNotEqual}
 use Rattle.trees.specs.Fragment.{AndB, AndV, OrB, OrD, OrC, OrI, AndOr, Thresh, Multi, MultiA}
 use Rattle.trees.specs.Tree.{find, Maker, makers, madeBy, fragmentOf, plain, withNumber, one, two, three, fragments, ofChildren, ofKeys}
-use Rattle.trees.proofs.RecordLaws.{counts, padded-front}
-use Rattle.script_bytes.specs.Rows.{fragmentAt, childrenFrom, Told}
+use Rattle.walk.specs.TreeRecords.{fragmentAt, childrenFrom, Told}
 
 -- what the maker of a kind makes of a payload that is known
 made-as : (tree : List ℕ) (i kind : ℕ) (p q : Payload) (m : Maker) {f : Fragment}
@@ -87,24 +87,25 @@ module _ {tree : List ℕ} {i : ℕ} {bytes : List ℕ} {kind : ℕ} {parts : Pa
 
   -- ---- leaves
 
+  pub no-payload : kind ≤ 33 → payload ≡ nothing
+  no-payload h = is-nothing bytes (of-shape 32 33 refl (fragment-kind .0) h)
+
+  pub number-payload : 34 ≤ kind → kind ≤ 41 → payload ≡ number (numberIn bytes)
+  number-payload l h = by-tests (leb kind 35) (leb kind 37) refl refl
+    where
+      by-tests : (s t : Bool) → leb kind 35 ≡ s → leb kind 37 ≡ t → payload ≡ number (numberIn bytes)
+      by-tests true t d e = is-number bytes (of-shape 34 35 refl l (leb-true kind 35 d))
+      by-tests false true d e = is-lock bytes (of-shape 36 37 refl (omega (arith, leb-false kind 35 d)) (leb-true kind 37 e))
+      by-tests false false d e = is-number bytes (of-shape 38 41 refl (omega (arith, leb-false kind 37 e)) h)
+
   plain-made : (f : Fragment) → find kind makers ≡ some (plain f) → kind ≤ 33 → fragmentAt tree i ≡ f
   plain-made f k h =
-      made-as tree i kind payload nothing (plain f) made k (is-nothing bytes (of-shape 32 33 refl (fragment-kind .0) h)) refl
+      made-as tree i kind payload nothing (plain f) made k (no-payload h) refl
 
-  -- numbers and locks have one payload
-  number-made : (f : ℕ → Fragment) → find kind makers ≡ some (withNumber f) → payload ≡ number (u32 bytes 4) → fragmentAt tree i ≡ f (parts .number)
-  number-made f k e =
-      let q = number (u32 bytes 4) in
-      made-as tree i kind payload q (withNumber f) made k e refl ∙ ap f (sym (number-is q e))
-
-  key-made : (f : ℕ → Fragment) → find kind makers ≡ some (withNumber f) → 34 ≤ kind → kind ≤ 35 → fragmentAt tree i ≡ f (parts .number)
-  key-made f k l h = number-made f k (is-number bytes (of-shape 34 35 refl l h))
-
-  lock-made : (f : ℕ → Fragment) → find kind makers ≡ some (withNumber f) → 36 ≤ kind → kind ≤ 37 → fragmentAt tree i ≡ f (parts .number)
-  lock-made f k l h = number-made f k (is-lock bytes (of-shape 36 37 refl l h))
-
-  hash-made : (f : ℕ → Fragment) → find kind makers ≡ some (withNumber f) → 38 ≤ kind → kind ≤ 41 → fragmentAt tree i ≡ f (parts .number)
-  hash-made f k l h = number-made f k (is-number bytes (of-shape 38 41 refl l h))
+  number-made : (f : ℕ → Fragment) → find kind makers ≡ some (withNumber f) → 34 ≤ kind → kind ≤ 41 → fragmentAt tree i ≡ f (parts .number)
+  number-made f k l h =
+      let q = number (numberIn bytes) in
+      made-as tree i kind payload q (withNumber f) made k (number-payload l h) refl ∙ ap f (sym (number-is q (number-payload l h)))
 
   pub is-false : kind ≡ 32 → fragmentAt tree i ≡ False
   unfolding find
@@ -116,59 +117,59 @@ module _ {tree : List ℕ} {i : ℕ} {bytes : List ℕ} {kind : ℕ} {parts : Pa
 
   pub is-pk-k : kind ≡ 34 → fragmentAt tree i ≡ PkK (parts .number)
   unfolding find
-  is-pk-k e = key-made PkK (rw e) (omega arith) (omega arith)
+  is-pk-k e = number-made PkK (rw e) (omega arith) (omega arith)
 
   pub is-pk-h : kind ≡ 35 → fragmentAt tree i ≡ PkH (parts .number)
   unfolding find
-  is-pk-h e = key-made PkH (rw e) (omega arith) (omega arith)
+  is-pk-h e = number-made PkH (rw e) (omega arith) (omega arith)
 
   pub is-after : kind ≡ 36 → fragmentAt tree i ≡ Lock After (parts .number)
   unfolding find
-  is-after e = lock-made (Lock After) (rw e) (omega arith) (omega arith)
+  is-after e = number-made (Lock After) (rw e) (omega arith) (omega arith)
 
   pub is-older : kind ≡ 37 → fragmentAt tree i ≡ Lock Older (parts .number)
   unfolding find
-  is-older e = lock-made (Lock Older) (rw e) (omega arith) (omega arith)
+  is-older e = number-made (Lock Older) (rw e) (omega arith) (omega arith)
 
   pub is-sha256 : kind ≡ 38 → fragmentAt tree i ≡ Hash Sha256 (parts .number)
   unfolding find
-  is-sha256 e = hash-made (Hash Sha256) (rw e) (omega arith) (omega arith)
+  is-sha256 e = number-made (Hash Sha256) (rw e) (omega arith) (omega arith)
 
   pub is-hash256 : kind ≡ 39 → fragmentAt tree i ≡ Hash Hash256 (parts .number)
   unfolding find
-  is-hash256 e = hash-made (Hash Hash256) (rw e) (omega arith) (omega arith)
+  is-hash256 e = number-made (Hash Hash256) (rw e) (omega arith) (omega arith)
 
   pub is-ripemd160 : kind ≡ 40 → fragmentAt tree i ≡ Hash Ripemd160 (parts .number)
   unfolding find
-  is-ripemd160 e = hash-made (Hash Ripemd160) (rw e) (omega arith) (omega arith)
+  is-ripemd160 e = number-made (Hash Ripemd160) (rw e) (omega arith) (omega arith)
 
   pub is-hash160 : kind ≡ 41 → fragmentAt tree i ≡ Hash Hash160 (parts .number)
   unfolding find
-  is-hash160 e = hash-made (Hash Hash160) (rw e) (omega arith) (omega arith)
+  is-hash160 e = number-made (Hash Hash160) (rw e) (omega arith) (omega arith)
 
-  keys-payload : 57 ≤ kind → payload ≡ keys (u16 bytes 4) (u32s bytes 8 (u16 bytes 6))
+  pub keys-payload : 57 ≤ kind → payload ≡ keys (kIn bytes) (keysIn bytes)
   keys-payload l = is-keys bytes (of-shape 57 58 refl l (fragment-kind .1))
 
   keys-made : (f : ℕ → List ℕ → Fragment) → find kind makers ≡ some (ofKeys f) → 57 ≤ kind
-      → fragmentAt tree i ≡ f (parts .k) (u32s bytes 8 (parts .count))
+      → fragmentAt tree i ≡ f (parts .k) (firstKeys bytes (parts .count))
   keys-made f k l =
-      let q = keys (u16 bytes 4) (u32s bytes 8 (u16 bytes 6)) in
+      let q = keys (kIn bytes) (keysIn bytes) in
       let m = k-is q (keys-payload l) in
-      let n = count-is q (keys-payload l) ∙ length-u32s bytes 8 (u16 bytes 6) in
+      let n = count-is q (keys-payload l) ∙ length-keys bytes (countIn bytes) in
       made-as tree i kind payload q (ofKeys f) made k (keys-payload l) refl
-      ∙ ap (λ (m : ℕ). f m (u32s bytes 8 (u16 bytes 6))) (sym m) ∙ ap (λ (n : ℕ). f (parts .k) (u32s bytes 8 n)) (sym n)
+      ∙ ap (λ (m : ℕ). f m (keysIn bytes)) (sym m) ∙ ap (λ (n : ℕ). f (parts .k) (firstKeys bytes n)) (sym n)
 
-  pub is-multi : kind ≡ 57 → fragmentAt tree i ≡ Multi (parts .k) (u32s bytes 8 (parts .count))
+  pub is-multi : kind ≡ 57 → fragmentAt tree i ≡ Multi (parts .k) (firstKeys bytes (parts .count))
   unfolding find
   is-multi e = keys-made Multi (rw e) (omega arith)
 
-  pub is-multi-a : kind ≡ 58 → fragmentAt tree i ≡ MultiA (parts .k) (u32s bytes 8 (parts .count))
+  pub is-multi-a : kind ≡ 58 → fragmentAt tree i ≡ MultiA (parts .k) (firstKeys bytes (parts .count))
   unfolding find
   is-multi-a e = keys-made MultiA (rw e) (omega arith)
 
   -- ---- fragments with children
 
-  one-payload : 42 ≤ kind → kind ≤ 48 → payload ≡ children (u16 bytes 4 ∷ [])
+  pub one-payload : 42 ≤ kind → kind ≤ 48 → payload ≡ children (u16 bytes 4 ∷ [])
   one-payload l h = is-one-child bytes (of-shape 42 48 refl l h)
 
   one-made : (f : Fragment → Fragment) → find kind makers ≡ some (one f) → 42 ≤ kind → kind ≤ 48
@@ -209,7 +210,7 @@ module _ {tree : List ℕ} {i : ℕ} {bytes : List ℕ} {kind : ℕ} {parts : Pa
   unfolding find
   is-zero-not-equal e = one-made ZeroNotEqual (rw e) (omega arith) (omega arith)
 
-  two-payload : 49 ≤ kind → kind ≤ 54 → payload ≡ children (u16 bytes 4 ∷ u16 bytes 6 ∷ [])
+  pub two-payload : 49 ≤ kind → kind ≤ 54 → payload ≡ children (u16 bytes 4 ∷ u16 bytes 6 ∷ [])
   two-payload l h = is-two-children bytes (of-shape 49 54 refl l h)
 
   two-made : (f : Fragment → Fragment → Fragment) → find kind makers ≡ some (two f) → 49 ≤ kind → kind ≤ 54
@@ -248,7 +249,7 @@ module _ {tree : List ℕ} {i : ℕ} {bytes : List ℕ} {kind : ℕ} {parts : Pa
   unfolding find
   is-or-i e = two-made OrI (rw e) (omega arith) (omega arith)
 
-  three-payload : kind ≡ 55 → payload ≡ children (u16 bytes 4 ∷ u16 bytes 6 ∷ u16 bytes 8 ∷ [])
+  pub three-payload : kind ≡ 55 → payload ≡ children (u16 bytes 4 ∷ u16 bytes 6 ∷ u16 bytes 8 ∷ [])
   three-payload e = is-three-children bytes (of-shape 55 55 refl (omega arith) (omega arith))
 
   pub three-before : kind ≡ 55 → (getD (parts .children) 0 0 < i) × (getD (parts .children) 1 0 < i) × (getD (parts .children) 2 0 < i)
@@ -267,14 +268,14 @@ module _ {tree : List ℕ} {i : ℕ} {bytes : List ℕ} {kind : ℕ} {parts : Pa
       ∙ ap (λ (cs : List ℕ). AndOr (fragmentAt tree (getD cs 0 0)) (fragmentAt tree (getD cs 1 0)) (fragmentAt tree (getD cs 2 0)))
       (sym (children-are q (three-payload e)))
 
-  thresh-payload : kind ≡ 56 → payload ≡ threshold (u16 bytes 4) (u16s bytes 8 (u16 bytes 6))
+  pub thresh-payload : kind ≡ 56 → payload ≡ threshold (kIn bytes) (u16s bytes 8 (countIn bytes))
   thresh-payload e = is-threshold bytes (of-shape 56 56 refl (omega arith) (omega arith))
 
   pub is-thresh : kind ≡ 56 → fragmentAt tree i ≡ Thresh (parts .k) (childrenFrom tree (parts .children) 0 (parts .count))
   unfolding find childrenFrom
   is-thresh e =
-      let cs = u16s bytes 8 (u16 bytes 6) in
-      let q = threshold (u16 bytes 4) cs in
+      let cs = u16s bytes 8 (countIn bytes) in
+      let q = threshold (kIn bytes) cs in
       let all : take (parts .count) (parts .children) ≡ cs =
       ap (λ (n : ℕ). take n (parts .children)) (count-is q (thresh-payload e))
       ∙ ap (take (length cs)) (children-are q (thresh-payload e)) ∙ padded-front cs in
@@ -284,7 +285,7 @@ module _ {tree : List ℕ} {i : ℕ} {bytes : List ℕ} {kind : ℕ} {parts : Pa
 
   pub all-before : kind ≡ 56 → (j : ℕ) → j < parts .count → getD (parts .children) j 0 < i
   all-before e j h =
-      let q = threshold (u16 bytes 4) (u16s bytes 8 (u16 bytes 6)) in
+      let q = threshold (kIn bytes) (u16s bytes 8 (countIn bytes)) in
       before q (thresh-payload e) j (omega (arith, count-is q (thresh-payload e)))
 
   -- k and n of a Thresh, a Multi or a MultiA
@@ -301,12 +302,12 @@ module _ {tree : List ℕ} {i : ℕ} {bytes : List ℕ} {kind : ℕ} {parts : Pa
       by-test : (t : Bool) → leb kind 56 ≡ t → (1 ≤ parts .k) × (parts .k ≤ parts .count) × (parts .count ≤ maxCount)
       by-test true e =
           let is = thresh-payload (omega (arith, leb-true kind 56 e)) in
-          of-parts (threshold (u16 bytes 4) (u16s bytes 8 (u16 bytes 6))) is
+          of-parts (threshold (kIn bytes) (u16s bytes 8 (countIn bytes))) is
           (Laws.threshold-bounds bytes (of-shape 56 56 refl l (leb-true kind 56 e) ∙ ap some is))
       by-test false e =
           let h = leb-false kind 56 e in
           let is = keys-payload h in
-          of-parts (keys (u16 bytes 4) (u32s bytes 8 (u16 bytes 6))) is
+          of-parts (keys (kIn bytes) (keysIn bytes)) is
           (Laws.keys-bounds bytes (of-shape 57 58 refl h (fragment-kind .1) ∙ ap some is))
 
 -- ---- the children of a Thresh, one after the other
