@@ -18,8 +18,8 @@ use Rattle.policies.specs.Forms.{childrenOf}
 use Rattle.policies.specs.Reading.{Answer, refused, done, _>>=_, orRefuse, refuseIf, Slots, slot, ifThere, without, those}
 use Rattle.policies.specs.Reading.{weighsNothing, written, Next, readWhole, readRecord, rootOf, finish, readFrom, readPolicy}
 use Rattle.policies.specs.Reading.{maxRecords, maxWeight}
-use Rattle.policies.specs.Array.{arrayWords, policyAt, Good}
-use Rattle.policies.specs.Answers.{PolicyRead, reads, bad-array, PolicyGood, policyAnswer, weightRead}
+use Rattle.policies.specs.Array.{policyAt, Good}
+use Rattle.policies.specs.Answers.{PolicyRead, reads, bad-array, PolicyGood}
 use Rattle.policies.specs.declared.ReadPolicy.{ReadPolicy}
 use Rattle.policies.specs.declared.ReadPolicy.the-variants as ReadPolicy
 use Rattle.policies.proofs.Forms.{children-made}
@@ -202,11 +202,6 @@ weight-bounded bytes e = let h = from-held 64 [] bytes e in omega arith
 
 -- ---- what `read_policy` answers
 
--- what an answer weighs, and 0 where there is none
-abbrev pub weightAnswered : Option (Answer Policy) → ℕ
-weightAnswered (some a) = weightRead a
-weightAnswered none = 0
-
 module _ (bytes m₀ m : List ℕ) {r : ReadPolicy} (read : PolicyRead bytes m₀ r m) where
   -- what `weight` asks for holds of its root
   pub weighable : (root : ℕ) → r ≡ ReadPolicy.Root root → Good m × ((root < maxRecords) × (weight (policyAt m root) ≤ maxWeight))
@@ -218,14 +213,3 @@ module _ (bytes m₀ m : List ℕ) {r : ReadPolicy} (read : PolicyRead bytes m�
           let is : readPolicy bytes ≡ done (policyAt m root) = some-same (told .says ∙ rw e) in
           (good .0, (good .1, weight-bounded bytes is))
       by-answer (bad-array short q) = absurd (let z : _≡_ {A = ℕ} 0 1 = cc in omega arith)
-
-  -- the weight of its root, and 0 for each refusal, is that of the policy that is read
-  pub weight-told : (answer : ReadPolicy) → r ≡ answer → length m₀ ≡ arrayWords
-      → weightAnswered (policyAnswer answer m) ≡ weightRead (readPolicy bytes)
-  weight-told answer e long = by-answer read
-    where
-      by-answer : PolicyRead bytes m₀ r m → weightAnswered (policyAnswer answer m) ≡ weightRead (readPolicy bytes)
-      by-answer (reads _ told) =
-          let says : some (readPolicy bytes) ≡ policyAnswer answer m = told .says ∙ rw e in
-          ap weightAnswered (sym says)
-      by-answer (bad-array short q) = absurd (short long)

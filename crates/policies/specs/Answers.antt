@@ -5,7 +5,7 @@ use mathlib.Core.Option.{Option, none, some}
 use mathlib.Core.Path.{_≡_}
 use Prim.Native.Nat.{ℕ, suc, _+_, _*_, _<_, _≤_}
 use lib.ListN.{length}
-use Rattle.policies.specs.Policy.{Policy, weight}
+use Rattle.policies.specs.Policy.{Policy}
 use Rattle.policies.specs.Reading.{Answer, refused, done, Next, rootOf, finish, readPolicy, without, badPolicy, zeroWeight}
 use Rattle.policies.specs.Reading.{policyTooLarge, maxRecords}
 use Rattle.policies.specs.Array.{rowWords, arrayWords, wordAt, takenAt, childAt, wordsFrom, slotsAt, recordPolicy, policyAt, Good, putHead}
@@ -99,11 +99,6 @@ pub record Read (answer : Answer Policy) (r : ReadPolicy) (m : List ℕ) : Type 
 pub data PolicyRead (bytes m₀ : List ℕ) (r : ReadPolicy) (m : List ℕ) : Type 0 where
   reads : length m₀ ≡ arrayWords → Read (readPolicy bytes) r m → PolicyRead bytes m₀ r m
   bad-array : (length m₀ ≡ arrayWords → ⊥) → r ≡ ReadPolicy.BadArray → PolicyRead bytes m₀ r m
-
--- what the policy of an answer weighs, and 0 where the answer is a refusal
-abbrev pub weightRead : Answer Policy → ℕ
-weightRead (done p) = weight p
-weightRead (refused n) = 0
 
 -- ---- a row written
 

@@ -15,7 +15,7 @@ ghost use Rattle.policies.specs.Policy.{Policy, depth, weight};
 ghost use Rattle.policies.specs.Forms.{made, orKind};
 ghost use Rattle.policies.specs.Array.{maxChildren, rowWords, arrayWords, arity, wordAt, policyAt, slotsAt, Rows, Good};
 ghost use Rattle.policies.specs.Array.{rowChild, childNumber, foldNumber, putHead, putChildren};
-ghost use Rattle.policies.specs.Answers.{Took, putRow, Stepped, AllRead, Rooted, Read, PolicyRead, weightRead};
+ghost use Rattle.policies.specs.Answers.{Took, putRow, Stepped, AllRead, Rooted, Read, PolicyRead};
 ghost use Rattle.policies.specs.Reading.{maxRecords, maxWeight, readWhole, readRecord, readPolicy, finish};
 ghost use Rattle.policies.specs.Heads.{headOf, leafHead, pairHead};
 use records::Parts;
@@ -435,18 +435,5 @@ pub fn read_policy(bytes: &[u8], pol: &mut [u64]) -> ReadPolicy
         RecordsRead::ZeroWeight => ReadPolicy::ZeroWeight,
         RecordsRead::PolicyTooLarge => ReadPolicy::PolicyTooLarge,
         RecordsRead::All(count) => finish(pol, count),
-    }
-}
-
-// Reads a policy into the array that is lent, and answers its weighted size, or 0 where there is none.
-pub fn read_weight(bytes: &[u8], pol: &mut [u64]) -> u64
-    ensures { λ w. ⌜ (length (now (pol .entry)) ≡ arrayWords → w ≡ weightRead (readPolicy (now (bytes .entry)))) ⌝ }
-{
-    match read_policy(bytes, pol) {
-        ReadPolicy::Root(root) => weight(pol, root),
-        ReadPolicy::BadPolicy => 0,
-        ReadPolicy::ZeroWeight => 0,
-        ReadPolicy::PolicyTooLarge => 0,
-        ReadPolicy::BadArray => 0,
     }
 }
