@@ -50,7 +50,7 @@ fn counted(text: &str) -> String {
     patched(&text, store, &format!("        crate::room::store(policy_cache.len());\n{store}"))
 }
 
-/// Links a library of the port where an environment variable names one, and tells the program so.
+/// Links the library of the port where an environment variable names one, and tells the program so.
 fn link(variable: &str, told: &str) {
     println!("cargo:rerun-if-env-changed={variable}");
     println!("cargo:rustc-check-cfg=cfg({told})");
@@ -98,7 +98,6 @@ fn main() {
     );
 
     link("CLASPWILLOW_LIB", "port");
-    link("CLASPWILLOW_SCRIPT_ENTRY", "script_entry");
     println!("cargo:rerun-if-env-changed=MINISCRIPT_SRC");
     println!("cargo:rerun-if-changed=build.rs");
     println!("cargo:rerun-if-changed=src/accessor.rs");

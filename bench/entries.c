@@ -6,10 +6,10 @@
 
 int main(void) {
     static const uint8_t policy[] = {0x08, 0x00, 0x03, 0x00, 0x07, 0x00, 0x00, 0x00};
-    const size_t compile_words = claspwillow_compile_work();
-    const size_t check_words = claspwillow_check_work();
-    const size_t script_words = claspwillow_script_work();
-    uint64_t *work = malloc(compile_words * sizeof *work);
+    const uint64_t compile_words = claspwillow_compile_work();
+    const uint64_t check_words = claspwillow_check_work();
+    const uint64_t script_words = claspwillow_script_work();
+    uint64_t *work = malloc((size_t)compile_words * sizeof *work);
     static const uint8_t keys[8 * 33];
     uint8_t tree[64], script[64];
     uint64_t bytes, cost, nodes, i;
@@ -26,12 +26,12 @@ int main(void) {
     }
     printf(", cost bits %016llX, %u nodes", (unsigned long long)cost, (unsigned)nodes);
     if (number == CLASPWILLOW_DONE) {
-        number = claspwillow_check(CLASPWILLOW_SEGWIT_V0, tree, (size_t)bytes, work, check_words, &ty);
+        number = claspwillow_check(CLASPWILLOW_SEGWIT_V0, tree, bytes, work, check_words, &ty);
         printf("; its check: number %u, type %u", (unsigned)number, (unsigned)ty);
     }
     if (number == CLASPWILLOW_DONE) {
         const uint64_t records = bytes;
-        number = claspwillow_script(CLASPWILLOW_SEGWIT_V0, tree, (size_t)records, keys, sizeof keys, keys, 0, keys, 0, keys, 0, script, sizeof script,
+        number = claspwillow_script(CLASPWILLOW_SEGWIT_V0, tree, records, keys, sizeof keys, keys, 0, keys, 0, keys, 0, script, sizeof script,
                                     work, script_words, &bytes);
         printf("; its script: number %u, %u bytes", (unsigned)number, (unsigned)bytes);
         if (bytes > 0) {

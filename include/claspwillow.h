@@ -1,8 +1,8 @@
-/* Claspwillow: the proved entries, as C calls them. docs/ENTRIES.md says what each number means. */
+/* Claspwillow: the proved entries, as C calls them. docs/ENTRIES.md says what each number means.
+ * Lengths have 64 bits on every machine, and `work` and the results begin at a multiple of 8 bytes. */
 #ifndef CLASPWILLOW_H
 #define CLASPWILLOW_H
 
-#include <stddef.h>
 #include <stdint.h>
 
 #ifdef __cplusplus
@@ -37,33 +37,40 @@ enum {
     CLASPWILLOW_TAPSCRIPT = 1
 };
 
+/* The stack in bytes that covers each entry's worst known input, on every machine where bench/machines has measured it; no proof speaks of the stack. */
+enum {
+    CLASPWILLOW_COMPILE_STACK = 655360,
+    CLASPWILLOW_CHECK_STACK = 4096,
+    CLASPWILLOW_SCRIPT_STACK = 2097152
+};
+
 /* Compiles a policy. Writes the records of its tree to the front of `out`, and gives how many bytes they are in *bytes, the bits of the tree's
  * cost (a double) in *cost and the nodes used in *nodes. On a refusal all three are 0 and `out` is as it was.
  * `work` is lent: claspwillow_compile_work() words, of any content; they are all zero afterwards, whatever the call gives. */
-uint32_t claspwillow_compile(uint32_t context, const uint8_t *policy, size_t policy_len, uint8_t *out, size_t out_len, uint64_t *work,
-                             size_t work_len, uint64_t *bytes, uint64_t *cost, uint64_t *nodes);
+uint32_t claspwillow_compile(uint32_t context, const uint8_t *policy, uint64_t policy_len, uint8_t *out, uint64_t out_len, uint64_t *work,
+                             uint64_t work_len, uint64_t *bytes, uint64_t *cost, uint64_t *nodes);
 
 /* The one length of `work`, in words, that claspwillow_compile takes. */
-size_t claspwillow_compile_work(void);
+uint64_t claspwillow_compile_work(void);
 
 /* Checks a fragment tree and gives its root's packed type in *ty (0 on a refusal).
  * `work` is lent: claspwillow_check_work() words, of any content; they are all zero afterwards, whatever the call gives. */
-uint32_t claspwillow_check(uint32_t context, const uint8_t *tree, size_t tree_len, uint64_t *work, size_t work_len, uint32_t *ty);
+uint32_t claspwillow_check(uint32_t context, const uint8_t *tree, uint64_t tree_len, uint64_t *work, uint64_t work_len, uint32_t *ty);
 
 /* The one length of `work`, in words, that claspwillow_check takes. */
-size_t claspwillow_check_work(void);
+uint64_t claspwillow_check_work(void);
 
 /* Writes the script of a fragment tree to the front of `out`, and gives how many bytes it is in *bytes. Keys and hashes come from tables, entry i
  * at i times its size: `keys` has entries of 33 bytes (context 0) or 32 (context 1), `key_hashes` the keys' HASH160 values of 20, `hashes32` of
  * 32 (SHA256 and HASH256), `hashes20` of 20 (RIPEMD160 and HASH160). On a refusal *bytes is 0 and `out` is as it was.
  * `work` is lent: claspwillow_script_work() words, of any content; they are all zero afterwards, whatever the call gives. */
-uint32_t claspwillow_script(uint32_t context, const uint8_t *tree, size_t tree_len, const uint8_t *keys, size_t keys_len,
-                            const uint8_t *key_hashes, size_t key_hashes_len, const uint8_t *hashes32, size_t hashes32_len,
-                            const uint8_t *hashes20, size_t hashes20_len, uint8_t *out, size_t out_len, uint64_t *work, size_t work_len,
+uint32_t claspwillow_script(uint32_t context, const uint8_t *tree, uint64_t tree_len, const uint8_t *keys, uint64_t keys_len,
+                            const uint8_t *key_hashes, uint64_t key_hashes_len, const uint8_t *hashes32, uint64_t hashes32_len,
+                            const uint8_t *hashes20, uint64_t hashes20_len, uint8_t *out, uint64_t out_len, uint64_t *work, uint64_t work_len,
                             uint64_t *bytes);
 
 /* The one length of `work`, in words, that claspwillow_script takes. */
-size_t claspwillow_script_work(void);
+uint64_t claspwillow_script_work(void);
 
 #ifdef __cplusplus
 }

@@ -54,12 +54,12 @@ mod figures;
 mod oracle;
 mod outline;
 mod policies;
-#[cfg(any(port, script_entry))]
+#[cfg(port)]
 mod port;
 mod random;
 mod records;
 mod room;
-#[cfg(script_entry)]
+#[cfg(port)]
 mod scripts;
 mod trees;
 
@@ -133,6 +133,12 @@ fn replay() -> Result<bool, String> {
     Ok(compile::replay())
 }
 
+#[cfg(port)]
+fn script(words: [&str; 3]) -> Result<bool, String> {
+    let (seed, count, records) = numbers(words, 4_096)?;
+    Ok(scripts::run(seed, count, records))
+}
+
 #[cfg(not(port))]
 fn no_port() -> Result<bool, String> {
     Err("bench: built without the port; CLASPWILLOW_LIB names its library when bench is built (docs/BENCH.md)\n".to_string())
@@ -153,15 +159,9 @@ fn replay() -> Result<bool, String> {
     no_port()
 }
 
-#[cfg(script_entry)]
-fn script(words: [&str; 3]) -> Result<bool, String> {
-    let (seed, count, records) = numbers(words, 4_096)?;
-    Ok(scripts::run(seed, count, records))
-}
-
-#[cfg(not(script_entry))]
+#[cfg(not(port))]
 fn script(_: [&str; 3]) -> Result<bool, String> {
-    Err("bench: built without crate script_entry; CLASPWILLOW_SCRIPT_ENTRY names its library when bench is built (docs/BENCH.md)\n".to_string())
+    no_port()
 }
 
 /// Whether all is well; or what is wrong with the words.

@@ -1,76 +1,65 @@
 //! The port, called as C calls it.
 
-#[cfg(port)]
 use std::slice;
 
-#[cfg(script_entry)]
 use crate::outline::Tables;
 
-#[cfg(port)]
 extern "C" {
-    fn claspwillow_check(context: u32, tree: *const u8, tree_len: usize, work: *mut u64, work_len: usize, ty: *mut u32) -> u32;
-    fn claspwillow_check_work() -> usize;
+    fn claspwillow_check(context: u32, tree: *const u8, tree_len: u64, work: *mut u64, work_len: u64, ty: *mut u32) -> u32;
+    fn claspwillow_check_work() -> u64;
     fn claspwillow_compile(
         context: u32,
         policy: *const u8,
-        policy_len: usize,
+        policy_len: u64,
         out: *mut u8,
-        out_len: usize,
+        out_len: u64,
         work: *mut u64,
-        work_len: usize,
+        work_len: u64,
         bytes: *mut u64,
         cost: *mut u64,
         nodes: *mut u64,
     ) -> u32;
-    fn claspwillow_compile_work() -> usize;
-}
-
-#[cfg(script_entry)]
-extern "C" {
+    fn claspwillow_compile_work() -> u64;
     fn claspwillow_script(
         context: u32,
         tree: *const u8,
-        tree_len: usize,
+        tree_len: u64,
         keys: *const u8,
-        keys_len: usize,
+        keys_len: u64,
         key_hashes: *const u8,
-        key_hashes_len: usize,
+        key_hashes_len: u64,
         hashes32: *const u8,
-        hashes32_len: usize,
+        hashes32_len: u64,
         hashes20: *const u8,
-        hashes20_len: usize,
+        hashes20_len: u64,
         out: *mut u8,
-        out_len: usize,
+        out_len: u64,
         work: *mut u64,
-        work_len: usize,
+        work_len: u64,
         bytes: *mut u64,
     ) -> u32;
-    fn claspwillow_script_work() -> usize;
+    fn claspwillow_script_work() -> u64;
 }
 
 /// The words of work memory that the check asks for.
-#[cfg(port)]
 pub fn check_work() -> usize {
     // SAFETY: the function takes nothing.
-    unsafe { claspwillow_check_work() }
+    unsafe { claspwillow_check_work() as usize }
 }
 
 /// The number, and the packed type as the call left it.
-#[cfg(port)]
 pub fn check(context: u32, tree: &[u8], work: &mut [u64], ty: &mut u32) -> u32 {
     // SAFETY: each slice is passed as its own pointer and length.
-    unsafe { claspwillow_check(context, tree.as_ptr(), tree.len(), work.as_mut_ptr(), work.len(), slice::from_mut(ty).as_mut_ptr()) }
+    unsafe { claspwillow_check(context, tree.as_ptr(), tree.len() as u64, work.as_mut_ptr(), work.len() as u64, slice::from_mut(ty).as_mut_ptr()) }
 }
 
 /// The words of work memory that compile asks for.
-#[cfg(port)]
 pub fn compile_work() -> usize {
     // SAFETY: the function takes nothing.
-    unsafe { claspwillow_compile_work() }
+    unsafe { claspwillow_compile_work() as usize }
 }
 
 /// The number, and the bytes, the cost bits and the nodes as the call left them in `results`.
-#[cfg(port)]
 pub fn compile(context: u32, policy: &[u8], out: &mut [u8], work: &mut [u64], results: &mut [u64; 3]) -> u32 {
     let [bytes, cost, nodes] = results;
     // SAFETY: each slice is passed as its own pointer and length, and each result as a pointer to one word.
@@ -78,11 +67,11 @@ pub fn compile(context: u32, policy: &[u8], out: &mut [u8], work: &mut [u64], re
         claspwillow_compile(
             context,
             policy.as_ptr(),
-            policy.len(),
+            policy.len() as u64,
             out.as_mut_ptr(),
-            out.len(),
+            out.len() as u64,
             work.as_mut_ptr(),
-            work.len(),
+            work.len() as u64,
             bytes,
             cost,
             nodes,
@@ -91,14 +80,12 @@ pub fn compile(context: u32, policy: &[u8], out: &mut [u8], work: &mut [u64], re
 }
 
 /// The words of work memory that script asks for.
-#[cfg(script_entry)]
 pub fn script_work() -> usize {
     // SAFETY: the function takes nothing.
-    unsafe { claspwillow_script_work() }
+    unsafe { claspwillow_script_work() as usize }
 }
 
 /// The number, and the count of bytes as the call left it.
-#[cfg(script_entry)]
 pub fn script(context: u32, tree: &[u8], tables: &Tables, out: &mut [u8], work: &mut [u64], bytes: &mut u64) -> u32 {
     let [keys, key_hashes, hashes32, hashes20] = tables;
     // SAFETY: each slice is passed as its own pointer and length, and the result as a pointer to one word.
@@ -106,19 +93,19 @@ pub fn script(context: u32, tree: &[u8], tables: &Tables, out: &mut [u8], work: 
         claspwillow_script(
             context,
             tree.as_ptr(),
-            tree.len(),
+            tree.len() as u64,
             keys.as_ptr(),
-            keys.len(),
+            keys.len() as u64,
             key_hashes.as_ptr(),
-            key_hashes.len(),
+            key_hashes.len() as u64,
             hashes32.as_ptr(),
-            hashes32.len(),
+            hashes32.len() as u64,
             hashes20.as_ptr(),
-            hashes20.len(),
+            hashes20.len() as u64,
             out.as_mut_ptr(),
-            out.len(),
+            out.len() as u64,
             work.as_mut_ptr(),
-            work.len(),
+            work.len() as u64,
             bytes,
         )
     }

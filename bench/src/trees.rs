@@ -378,7 +378,7 @@ fn entries(bytes: &[u8]) -> Vec<(usize, usize)> {
 }
 
 /// The keys and hashes of a well-formed tree: the table, and the number in it.
-#[cfg(script_entry)]
+#[cfg(port)]
 pub fn numbers(bytes: &[u8]) -> Vec<(usize, u32)> {
     entries(bytes).into_iter().map(|(place, table)| (table, u32_at(bytes, place))).collect()
 }
@@ -475,7 +475,7 @@ pub fn grown<Ctx: ScriptContext>(random: &mut Random, records: usize) -> Child<C
 }
 
 /// What a random tree is meant to be.
-#[cfg(any(port, script_entry))]
+#[cfg(port)]
 pub const FLAVOURS: [&str; 3] = ["well-typed", "ill-typed", "damaged"];
 
 /// The bytes of a random tree of one flavour.

@@ -1,0 +1,217 @@
+/* Says how many bytes of stack each entry needs on the worst inputs that are known, on the machine that it is compiled for, and whether the header's
+ * figure covers them: the stack below the caller is painted, the entry is called, and the lowest word that lost its paint is found. */
+#include "claspwillow.h"
+#include "machine.h"
+
+enum { WORDS = 1 << 20, ROOM = 294912, RECORDS = 4096, PAINTED = 3 << 20 };
+
+static const uint64_t PAINT = 0xA5A5A5A5A5A5A5A5;
+
+static _Alignas(8) uint64_t work[WORDS];
+static uint8_t input[ROOM], out[ROOM], script[1 << 21], keys[33 * 64];
+static uint64_t length;
+static uint32_t context, result;
+
+/* Where the next record goes, and its number. */
+static void begin(void) { length = 0; }
+
+static void put16(uint32_t number) {
+    input[length++] = (uint8_t)number;
+    input[length++] = (uint8_t)(number >> 8);
+}
+
+static void put32(uint32_t number) {
+    put16(number);
+    put16(number >> 16);
+}
+
+static void leaf(uint32_t kind, uint32_t number) {
+    put16(8);
+    put16(kind);
+    put32(number);
+}
+
+static void wrapper(uint32_t kind, uint32_t child) {
+    put16(6);
+    put16(kind);
+    put16(child);
+}
+
+static void pair(uint32_t kind, uint32_t left, uint32_t right) {
+    put16(8);
+    put16(kind);
+    put16(left);
+    put16(right);
+}
+
+/* A policy of depth 16: Ors, each of a key and the rest, above a threshold of 16 of 16 keys. */
+static void ors(void) {
+    uint32_t records = 0;
+    begin();
+    for (; records < 16; records++) {
+        leaf(3, records);
+    }
+    put16(40);
+    put16(12);
+    put16(16);
+    put16(16);
+    for (uint32_t i = 0; i < 16; i++) {
+        put16(i);
+    }
+    for (int i = 0; i < 14; i++) {
+        leaf(3, ++records);
+        put16(16);
+        put16(11);
+        put16(records);
+        put16(records - 1);
+        put32(1);
+        put32(1);
+        records++;
+    }
+}
+
+/* A policy of 64 records: thresholds of n of n within each other, the inner one the first child of the outer one or the last. */
+static void thresholds(int inner_first) {
+    static const uint32_t sizes[] = {15, 16, 16, 16};
+    uint32_t records = 0, inner = 0;
+    begin();
+    for (uint32_t level = 0; level < 4; level++) {
+        const uint32_t n = sizes[level], leaves = level == 0 ? n : n - 1, first = records;
+        for (uint32_t i = 0; i < leaves; i++) {
+            leaf(3, records++);
+        }
+        put16(8 + 2 * n);
+        put16(12);
+        put16(n);
+        put16(n);
+        for (uint32_t i = 0; i < n; i++) {
+            const uint32_t place = inner_first ? 0 : n - 1;
+            put16(level > 0 && i == place ? inner : first + i - (level > 0 && inner_first));
+        }
+        inner = records++;
+    }
+}
+
+/* Trees of 4,096 records: a key, checked, and as many records above it as there is room for. */
+static uint32_t key(void) {
+    begin();
+    leaf(34, 7);
+    wrapper(44, 0);
+    return 2;
+}
+
+static void wrapped(void) {
+    for (uint32_t i = key(); i < RECORDS; i++) {
+        wrapper(48, i - 1);
+    }
+}
+
+static void thresholds_of_one(void) {
+    for (uint32_t i = key(); i < RECORDS; i++) {
+        put16(10);
+        put16(56);
+        put16(1);
+        put16(1);
+        put16(i - 1);
+    }
+}
+
+static void alternatives(int deep_left) {
+    for (uint32_t i = key(); i + 2 <= RECORDS; i += 2) {
+        put16(4);
+        put16(32);
+        pair(54, deep_left ? i - 1 : i, deep_left ? i : i - 1);
+    }
+}
+
+static void conjunctions(void) {
+    for (uint32_t i = key(); i + 3 <= RECORDS; i += 3) {
+        put16(4);
+        put16(33);
+        wrapper(46, i);
+        pair(50, i + 1, i - 1);
+    }
+}
+
+static void compile(void) {
+    uint64_t bytes, cost, nodes;
+    result = claspwillow_compile(context, input, length, out, ROOM, work, claspwillow_compile_work(), &bytes, &cost, &nodes);
+}
+
+static void check(void) {
+    uint32_t ty;
+    result = claspwillow_check(context, input, length, work, claspwillow_check_work(), &ty);
+}
+
+static void write_script(void) {
+    uint64_t bytes;
+    result = claspwillow_script(context, input, length, keys, sizeof keys, keys, sizeof keys, keys, sizeof keys, keys, sizeof keys, script,
+                                sizeof script, work, claspwillow_script_work(), &bytes);
+}
+
+/* The bytes below this function's own frame that the call touches. */
+static __attribute__((noinline)) uint32_t touched(void (*entry)(void)) {
+    volatile uint64_t *top = (volatile uint64_t *)(((__UINTPTR_TYPE__)__builtin_frame_address(0) & ~(__UINTPTR_TYPE__)7) - 256);
+    int depth;
+    for (int i = 0; i < PAINTED / 8; i++) {
+        top[-i] = PAINT;
+    }
+    entry();
+    for (depth = PAINTED / 8 - 1; depth > 0 && top[-depth] == PAINT; depth--) {
+    }
+    return 256 + 8 * (uint32_t)depth;
+}
+
+/* The most that an entry touches over both contexts and the inputs so far. */
+static uint32_t most;
+static int failed;
+
+/* `expected` is the number that the call must give. */
+static void measure(void (*entry)(void), uint32_t expected) {
+    for (context = 0; context < 2; context++) {
+        const uint32_t depth = touched(entry);
+        most = depth > most ? depth : most;
+        if (result != expected) {
+            say("an input gives number ");
+            say_number(result);
+            say("\n");
+            failed = 1;
+        }
+    }
+}
+
+static void report(const char *entry, uint32_t figure) {
+    say(entry);
+    say(": ");
+    say_number(most);
+    say(" bytes of stack, and the header says ");
+    say_number(figure);
+    say("\n");
+    failed |= most > figure;
+    most = 0;
+}
+
+int machine_run(void) {
+    ors();
+    measure(compile, CLASPWILLOW_CACHE_FULL);
+    for (int first = 0; first < 2; first++) {
+        thresholds(first);
+        measure(compile, CLASPWILLOW_DONE);
+    }
+    report("compile", CLASPWILLOW_COMPILE_STACK);
+    for (int entry = 0; entry < 2; entry++) {
+        void (*const call)(void) = entry == 0 ? check : write_script;
+        wrapped();
+        measure(call, CLASPWILLOW_DONE);
+        thresholds_of_one();
+        measure(call, CLASPWILLOW_DONE);
+        alternatives(0);
+        measure(call, CLASPWILLOW_DONE);
+        alternatives(1);
+        measure(call, CLASPWILLOW_DONE);
+        conjunctions();
+        measure(call, CLASPWILLOW_DONE);
+        report(entry == 0 ? "check" : "script", entry == 0 ? CLASPWILLOW_CHECK_STACK : CLASPWILLOW_SCRIPT_STACK);
+    }
+    return failed;
+}
