@@ -1,8 +1,10 @@
 //! `bench compile` and `bench replay`: policies through the Rust, or its stored answers, and through the port.
 
+use std::collections::BTreeSet;
+
 use crate::answers::STORED;
 use crate::oracle;
-use crate::policies::{damaged, Maker};
+use crate::policies::{damaged, thresholds, Maker};
 use crate::port;
 use crate::random::Random;
 use crate::records::{from_hex, to_hex};
@@ -163,13 +165,16 @@ pub fn run(seed: u64, count: u64, records: usize) -> bool {
     let mut random = Random::new(seed);
     let mut lent = Lent { work: Vec::new(), out: Vec::new() };
     let mut tally = Tally::new();
+    let (mut infinite, mut met) = (0, BTreeSet::new());
     for _ in 0..count {
-        let (context, mut policy) = Maker::new(&mut random).case(records);
+        let (context, mut policy) = Maker::new(&mut random).any_case(records);
+        met.extend(thresholds(&policy));
         if random.once_in(10) {
             policy = damaged(&mut random, &policy);
         }
         match oracle::answer(context, &policy) {
-            Ok((answer, _)) => {
+            Ok((answer, counts)) => {
+                infinite += u64::from(counts.infinite);
                 let wanted = Wanted { number: answer.number, output: answer.output, cost: answer.cost, nodes: answer.nodes as u64 };
                 let outcome = differs(&mut lent, &mut random, context, &policy, &wanted);
                 tally.count(wanted.number, outcome);
@@ -180,5 +185,6 @@ pub fn run(seed: u64, count: u64, records: usize) -> bool {
             }
         }
     }
+    println!("{infinite} of them compared an infinite cost; of the 136 pairs of k and n from 1 to 16 their thresholds have {}", met.len());
     tally.end("random policies")
 }

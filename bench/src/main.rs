@@ -105,7 +105,7 @@ fn generate(words: [&str; 3], damage: bool) -> Result<bool, String> {
     let mut random = Random::new(seed);
     let mut out = BufWriter::new(io::stdout().lock());
     for _ in 0..count {
-        let (mut context, mut policy) = Maker::new(&mut random).case(records);
+        let (mut context, mut policy) = Maker::new(&mut random).any_case(records);
         if damage {
             context = damaged_context(&mut random, context);
             policy = damaged(&mut random, &policy);

@@ -126,11 +126,15 @@ pub struct Maker<'a> {
     others: usize,
     /// Whether the policy is a chain, so that depth is reached.
     deep: bool,
+    /// Whether one leaf in three is Unsatisfiable or Trivial, so that costs are infinite.
+    barren: bool,
+    /// Whether all weights are at their ends, so that probabilities are near 0 and near 1.
+    extreme: bool,
 }
 
 impl<'a> Maker<'a> {
     pub fn new(random: &'a mut Random) -> Self {
-        Maker { random, made: Vec::new(), others: 2, deep: false }
+        Maker { random, made: Vec::new(), others: 2, deep: false, barren: false, extreme: false }
     }
 
     fn number(&mut self) -> u32 {
@@ -141,6 +145,9 @@ impl<'a> Maker<'a> {
     }
 
     fn weight(&mut self) -> u32 {
+        if self.extreme {
+            return *self.random.pick(&[1, 1, 2, 4_294_967_294, 4_294_967_295]);
+        }
         match self.random.below(10) {
             0 => 1 + (self.random.next() % 4_294_967_295) as u32,
             _ => *self.random.pick(&WEIGHTS),
@@ -155,6 +162,9 @@ impl<'a> Maker<'a> {
     }
 
     fn leaf(&mut self) -> Policy {
+        if self.barren && self.random.once_in(3) {
+            return if self.random.once_in(3) { Trivial } else { Unsatisfiable };
+        }
         if !self.random.once_in(self.others) {
             return key(self.number());
         }
@@ -232,6 +242,52 @@ impl<'a> Maker<'a> {
         Thresh(self.threshold_number(n), children)
     }
 
+    /// A threshold with any k of any n from 1 to 16 that the records have room for.
+    fn threshold(&mut self, records: usize) -> Policy {
+        let n = self.random.between(1, 16.min(records - 1));
+        let parts = self.parts(records - 1, n);
+        let children = parts.iter().map(|&p| self.policy(p, 15)).collect();
+        Thresh(self.random.between(1, n), children)
+    }
+
+    /// A chain of Ors, each with a leaf on one side, above any policy; 3 records at least.
+    fn alternatives(&mut self, records: usize) -> Policy {
+        let depth = self.random.between(1, 15.min((records - 1) / 2));
+        let inner = self.policy(records - 2 * depth, 16 - depth);
+        (0..depth).fold(inner, |rest, _| {
+            let (left, right) = (self.weight(), self.weight());
+            let leaf = self.leaf();
+            if self.random.once_in(2) {
+                or(left, leaf, right, rest)
+            } else {
+                or(left, rest, right, leaf)
+            }
+        })
+    }
+
+    /// A context and the bytes of a policy at the edge: a threshold of any k and n, a chain of Ors, or any shape, with barren leaves, extreme
+    /// weights, or both.
+    fn edge_case(&mut self, records: usize) -> (u32, Vec<u8>) {
+        self.others = *self.random.pick(&[1, 2, 4, 16, 64]);
+        (self.barren, self.extreme) = *self.random.pick(&[(true, false), (false, true), (true, true)]);
+        let records = self.random.between(1, records);
+        let policy = match self.random.below(4) {
+            0 | 1 if records >= 2 => self.threshold(records),
+            2 if records >= 3 => self.alternatives(records),
+            _ => self.policy(records, 16),
+        };
+        (self.random.below(2) as u32, policy.bytes())
+    }
+
+    /// A context and the bytes of a policy, one in three at the edge. `case` alone makes those of the stored list.
+    pub fn any_case(&mut self, records: usize) -> (u32, Vec<u8>) {
+        if self.random.once_in(3) {
+            self.edge_case(records)
+        } else {
+            self.case(records)
+        }
+    }
+
     /// A context and the bytes of a policy.
     pub fn case(&mut self, records: usize) -> (u32, Vec<u8>) {
         self.made.clear();
@@ -254,6 +310,12 @@ fn places(bytes: &[u8]) -> Vec<(usize, u16)> {
         at += length.max(4);
     }
     places
+}
+
+/// k and n of each threshold of a well-formed policy.
+#[cfg(port)]
+pub fn thresholds(bytes: &[u8]) -> Vec<(u8, u8)> {
+    places(bytes).iter().filter(|place| place.1 == 12).map(|place| (bytes[place.0 + 4], bytes[place.0 + 6])).collect()
 }
 
 /// A damaged copy: one thing is broken, of those that the policy has.
