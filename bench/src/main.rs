@@ -61,6 +61,8 @@ mod records;
 mod room;
 #[cfg(port)]
 mod scripts;
+#[cfg(port)]
+mod speed;
 mod trees;
 
 use std::io::{self, BufWriter, Write};
@@ -81,6 +83,8 @@ const USAGE: &str = "usage:
   bench compile SEED COUNT MAXRECORDS  runs COUNT random policies, some damaged, through the Rust and the port
   bench replay                         runs the stored list through the port
   bench script SEED COUNT MAXRECORDS   runs COUNT random trees of each flavour and context, and tables, through the Rust's decoder and the port
+  bench speed [all | port]             times the Rust's unmodified compiler and the port over 200 policies; `all` says a line for each policy,
+                                       `port` runs the port alone and says nothing, for a profiler
 ";
 
 /// The search recurses, so the work is done on a thread with room for it.
@@ -139,6 +143,16 @@ fn script(words: [&str; 3]) -> Result<bool, String> {
     Ok(scripts::run(seed, count, records))
 }
 
+#[cfg(port)]
+fn speed(word: &str) -> Result<bool, String> {
+    match word {
+        "" => Ok(speed::run(speed::Said::Tables)),
+        "all" => Ok(speed::run(speed::Said::Each)),
+        "port" => Ok(speed::run(speed::Said::Nothing)),
+        _ => Err(USAGE.to_string()),
+    }
+}
+
 #[cfg(not(port))]
 fn no_port() -> Result<bool, String> {
     Err("bench: built without the port; CLASPWILLOW_LIB names its library when bench is built (docs/BENCH.md)\n".to_string())
@@ -164,6 +178,11 @@ fn script(_: [&str; 3]) -> Result<bool, String> {
     no_port()
 }
 
+#[cfg(not(port))]
+fn speed(_: &str) -> Result<bool, String> {
+    no_port()
+}
+
 /// Whether all is well; or what is wrong with the words.
 fn run(words: &[&str]) -> Result<bool, String> {
     match *words {
@@ -184,6 +203,8 @@ fn run(words: &[&str]) -> Result<bool, String> {
         ["compile", seed, count, records] => compile([seed, count, records]),
         ["replay"] => replay(),
         ["script", seed, count, records] => script([seed, count, records]),
+        ["speed"] => speed(""),
+        ["speed", word] => speed(word),
         ["figures"] => Ok(figures::run()),
         ["decode", seed, count, records] => {
             let (seed, count, records) = numbers([seed, count, records], 4_096)?;
