@@ -12,7 +12,9 @@ int main(void) {
     uint64_t *work = malloc((size_t)compile_words * sizeof *work);
     static const uint8_t keys[8 * 33];
     uint8_t tree[64], script[64];
-    uint64_t bytes, cost, nodes, i;
+    /* On i686 a uint64_t may otherwise begin at any multiple of 4. */
+    uint64_t bytes __attribute__((aligned(8))), cost __attribute__((aligned(8))), nodes __attribute__((aligned(8)));
+    uint64_t i;
     uint32_t number, ty;
 
     if (work == NULL) {

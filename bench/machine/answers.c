@@ -113,7 +113,7 @@ static int same(const uint8_t *x, const uint8_t *y, uint64_t count) {
 
 /* Checks the tree in `wanted` and writes its script; what they give goes into the digest. */
 static void tree(uint32_t context, uint64_t length, uint32_t line) {
-    uint64_t bytes = next_dirt(), stain = lend(claspwillow_check_work(), 0);
+    _Alignas(8) uint64_t bytes = next_dirt(), stain = lend(claspwillow_check_work(), 0);
     uint32_t ty = (uint32_t)stain;
     uint32_t number = claspwillow_check(context, wanted, length, work, claspwillow_check_work(), &ty);
     if (number != CLASPWILLOW_DONE || !left_well(stain, claspwillow_check_work(), 0, 0)) {
@@ -144,7 +144,7 @@ static void answer(uint32_t *at, uint32_t line) {
     const uint64_t nodes = read_number(at, 10);
     const uint64_t words = claspwillow_compile_work(), room = bytes + line % 64;
     const uint64_t stain = lend(words, room);
-    uint64_t got_bytes = stain, got_cost = stain, got_nodes = stain;
+    _Alignas(8) uint64_t got_bytes = stain, got_cost = stain, got_nodes = stain;
     const uint32_t got = claspwillow_compile(context, policy, length, out, room, work, words, &got_bytes, &got_cost, &got_nodes);
     answers++;
     if (got != number || got_bytes != bytes || got_cost != cost || got_nodes != nodes || !same(out, wanted, bytes)) {
@@ -188,7 +188,7 @@ static void expect(uint32_t got, uint32_t number, const char *what) {
 /* Lengths over 2^32, of which no byte past the true ones is looked at: read as 32 bits they would give other numbers. */
 static void long_lengths(void) {
     const uint64_t far = (uint64_t)1 << 32, words = claspwillow_compile_work();
-    uint64_t bytes, cost, nodes;
+    _Alignas(8) uint64_t bytes, cost, nodes;
     uint32_t ty;
     const uint32_t context = CLASPWILLOW_SEGWIT_V0;
     for (uint32_t i = 0; i < 8 * 65; i++) {

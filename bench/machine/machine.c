@@ -95,8 +95,17 @@ void *memmove(void *to, const void *from, size count) {
     return to;
 }
 
+/* Whole words where they fit: work memory is cleared by this. */
 void *memset(void *to, int value, size count) {
-    for (size i = 0; i < count; i++) {
+    const size word = (size)-1 / 255 * (uint8_t)value;
+    size i = 0;
+    for (; i < count && ((size)to + i) % sizeof word != 0; i++) {
+        ((uint8_t *)to)[i] = (uint8_t)value;
+    }
+    for (; i + sizeof word <= count; i += sizeof word) {
+        *(size *)((uint8_t *)to + i) = word;
+    }
+    for (; i < count; i++) {
         ((uint8_t *)to)[i] = (uint8_t)value;
     }
     return to;

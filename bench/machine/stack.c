@@ -134,7 +134,7 @@ static void conjunctions(void) {
 }
 
 static void compile(void) {
-    uint64_t bytes, cost, nodes;
+    _Alignas(8) uint64_t bytes, cost, nodes;
     result = claspwillow_compile(context, input, length, out, ROOM, work, claspwillow_compile_work(), &bytes, &cost, &nodes);
 }
 
@@ -144,7 +144,7 @@ static void check(void) {
 }
 
 static void write_script(void) {
-    uint64_t bytes;
+    _Alignas(8) uint64_t bytes;
     result = claspwillow_script(context, input, length, keys, sizeof keys, keys, sizeof keys, keys, sizeof keys, keys, sizeof keys, script,
                                 sizeof script, work, claspwillow_script_work(), &bytes);
 }
