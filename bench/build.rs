@@ -1,7 +1,8 @@
 //! Finds the Rust's sources and prepares the three copies of its compiler.
 //!
 //! The unmodified files are built where they stand, by path. Beside them, in the build's own folder: `costed.rs`, the compiler with the
-//! text of src/accessor.rs appended, and `counted.rs`, the compiler with counters and document 01's room limits put in by exact text.
+//! text of src/accessor.rs appended, `counted.rs`, the compiler with counters and document 01's room limits put in by exact text, and
+//! `types`, the type rules with u for d:X in Tapscript put in by exact text.
 
 use std::path::{Path, PathBuf};
 use std::{env, fs, process};
@@ -30,8 +31,32 @@ fn sources(bench: &Path) -> PathBuf {
 fn patched(text: &str, old: &str, new: &str) -> String {
     match text.matches(old).count() {
         1 => text.replacen(old, new, 1),
-        n => stop(&format!("the text `{old}` stands {n} times in compiler.rs, not once")),
+        n => stop(&format!("the text `{old}` stands {n} times in the Rust's file, not once")),
     }
+}
+
+/// types/correctness.rs with one rule changed: u of d:X is src/tapscript.rs's answer, which no constant function can ask for.
+fn correctness(text: &str) -> String {
+    let rule = "    pub const fn cast_dupif(self) -> Result<Self, ErrorKind> {
+        Ok(Correctness {
+            base: match self.base {
+                Base::V => Base::B,
+                x => return Err(ErrorKind::ChildBase1(x)),
+            },
+            input: match self.input {
+                Input::Zero => Input::OneNonZero,
+                _ => return Err(ErrorKind::NonZeroDupIf),
+            },
+            dissatisfiable: true,
+            unit: false,
+";
+    let changed = patched(rule, "unit: false", "unit: crate::tapscript::unit()");
+    patched(text, rule, &patched(&changed, "pub const fn", "pub fn"))
+}
+
+/// types/mod.rs, where the same rule is no constant function any more.
+fn types(text: &str) -> String {
+    patched(text, "    pub const fn cast_dupif(self)", "    pub fn cast_dupif(self)")
 }
 
 /// The compiler with counters and room limits: each patch calls src/room.rs and changes nothing else.
@@ -72,6 +97,15 @@ fn main() {
     let write = |name: &str, text: &str| fs::write(out.join(name), text).unwrap_or_else(|e| stop(&format!("{name}: {e}")));
     write("costed.rs", &format!("{text}\n{accessor}"));
     write("counted.rs", &counted(&text));
+    let copied = out.join("types");
+    fs::create_dir_all(&copied).unwrap_or_else(|e| stop(&format!("{}: {e}", copied.display())));
+    for (file, change) in
+        [("mod.rs", Some(types as fn(&str) -> String)), ("correctness.rs", Some(correctness)), ("malleability.rs", None), ("extra_props.rs", None)]
+    {
+        let at = source.join("miniscript/types").join(file);
+        let text = fs::read_to_string(&at).unwrap_or_else(|e| stop(&format!("{}: {e}", at.display())));
+        write(&format!("types/{file}"), &change.map_or_else(|| text.clone(), |change| change(&text)));
+    }
     let module = |visibility: &str, name: &str, at: &Path| {
         format!("#[allow(warnings, clippy::all)]\n#[path = {:?}]\n{visibility} mod {name};\n", at.display().to_string())
     };
@@ -79,7 +113,7 @@ fn main() {
     write(
         "miniscript.rs",
         &[
-            module("pub", "types", &miniscript("types/mod.rs")),
+            module("pub", "types", &copied.join("mod.rs")),
             module("pub(crate)", "context", &miniscript("context.rs")),
             module("pub", "decode", &miniscript("decode.rs")),
             module("pub", "lex", &miniscript("lex.rs")),

@@ -63,6 +63,7 @@ mod room;
 mod scripts;
 #[cfg(port)]
 mod speed;
+mod tapscript;
 mod trees;
 
 use std::io::{self, BufWriter, Write};
@@ -74,6 +75,7 @@ use records::to_hex;
 
 const USAGE: &str = "usage:
   bench oracle                         answers the lines `CONTEXT POLICY` of standard input, a line each
+  bench unchanged                      the same by the Rust as it is, where no d:X has u
   bench gen SEED COUNT MAXRECORDS      writes COUNT random lines `CONTEXT POLICY`, of 1 to MAXRECORDS (at most 64) records
   bench damage SEED COUNT MAXRECORDS   writes damaged copies of such lines
   bench answers                        writes the stored list, crates/oracle_replay/data/compile.txt, anew
@@ -101,6 +103,12 @@ fn numbers(words: [&str; 3], most: u64) -> Result<(u64, u64, usize), String> {
         return Err(format!("bench: MAXRECORDS is {records}, not 1 to {most}\n"));
     }
     Ok((seed, count, records as usize))
+}
+
+/// Answers the lines of standard input.
+fn answered() -> Result<bool, String> {
+    let bad = oracle::run(io::stdin().lock(), BufWriter::new(io::stdout().lock())).map_err(|e| format!("bench: {e}\n"))?;
+    Ok(bad == 0)
 }
 
 /// The lines `CONTEXT POLICY` of random policies, damaged or not.
@@ -186,10 +194,8 @@ fn speed(_: &str) -> Result<bool, String> {
 /// Whether all is well; or what is wrong with the words.
 fn run(words: &[&str]) -> Result<bool, String> {
     match *words {
-        ["oracle"] => {
-            let bad = oracle::run(io::stdin().lock(), BufWriter::new(io::stdout().lock())).map_err(|e| format!("bench: {e}\n"))?;
-            Ok(bad == 0)
-        }
+        ["oracle"] => answered(),
+        ["unchanged"] => tapscript::unchanged(answered),
         ["gen", seed, count, records] => generate([seed, count, records], false),
         ["damage", seed, count, records] => generate([seed, count, records], true),
         ["answers"] => match answers::run(&mut BufWriter::new(io::stdout().lock())) {

@@ -12,7 +12,7 @@ use crate::miniscript::ScriptContext;
 use crate::policy::{compiler, costed, counted, Concrete};
 use crate::records::{from_hex, read_policy, to_hex, write_tree};
 use crate::room::{self, Counts, Refusal};
-use crate::Miniscript;
+use crate::{tapscript, Miniscript};
 
 const BAD_CONTEXT: u32 = 1;
 const NOT_A_COST: u32 = 10;
@@ -48,8 +48,8 @@ pub fn answer(context: u32, policy: &[u8]) -> Result<(Answer, Counts), String> {
     }
     match read_policy(policy) {
         Err(number) => Ok((Answer::refused(number), room::counts())),
-        Ok(policy) if context == 0 => searched::<Segwitv0>(&policy),
-        Ok(policy) => searched::<Tap>(&policy),
+        Ok(policy) if context == 0 => tapscript::typing::<Segwitv0, _>(|| searched::<Segwitv0>(&policy)),
+        Ok(policy) => tapscript::typing::<Tap, _>(|| searched::<Tap>(&policy)),
     }
 }
 

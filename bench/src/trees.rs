@@ -8,7 +8,7 @@ use crate::policies::LOCKS;
 use crate::random::Random;
 use crate::records::{u16_at, u16s, u32_at, Writer, LOCK_MAX, THRESH_MAX, TREE_RECORDS};
 use crate::sync::Arc;
-use crate::{AbsLockTime, Miniscript, RelLockTime, Terminal, Threshold};
+use crate::{tapscript, AbsLockTime, Miniscript, RelLockTime, Terminal, Threshold};
 
 const BAD_CONTEXT: u32 = 1;
 const BAD_WORK: u32 = 2;
@@ -95,7 +95,7 @@ fn typed<Ctx: ScriptContext>(node: &Terminal<Key, Ctx>) -> Result<Type, u32> {
     match node {
         Terminal::Multi(_) if schnorr => Err(ILL_TYPED),
         Terminal::MultiA(_) if !schnorr => Err(ILL_TYPED),
-        _ => Type::type_check(node).map_err(|_| ILL_TYPED),
+        _ => tapscript::typing::<Ctx, _>(|| Type::type_check(node)).map_err(|_| ILL_TYPED),
     }
 }
 

@@ -7,7 +7,7 @@ use crate::hashes::hash160;
 use crate::miniscript::limits::{MAX_PUBKEYS_IN_CHECKSIGADD, MAX_PUBKEYS_PER_MULTISIG};
 use crate::miniscript::types::{ExtData, Type};
 use crate::miniscript::ScriptContext;
-use crate::{AbsLockTime, Error, ForEachKey, MiniscriptKey, RelLockTime, Terminal, Threshold, MAX_RECURSION_DEPTH};
+use crate::{tapscript, AbsLockTime, Error, ForEachKey, MiniscriptKey, RelLockTime, Terminal, Threshold, MAX_RECURSION_DEPTH};
 
 /// A fragment tree.
 #[derive(Clone)]
@@ -76,7 +76,7 @@ impl<Pk: MiniscriptKey, Ctx: ScriptContext> Miniscript<Pk, Ctx> {
 
     /// The fragment over children that have their types: typed, not too tall, globally valid, or refused in this order.
     pub fn from_ast(t: Terminal<Pk, Ctx>) -> Result<Self, Error> {
-        let (ty, ext) = (Type::type_check(&t)?, ExtData::type_check(&t));
+        let (ty, ext) = (tapscript::typing::<Ctx, _>(|| Type::type_check(&t))?, ExtData::type_check(&t));
         let res = Self::with(t, ty, ext);
         if res.ext.tree_height as u32 > MAX_RECURSION_DEPTH {
             return Err(Error::MaxRecursiveDepthExceeded);

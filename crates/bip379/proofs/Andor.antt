@@ -11,7 +11,7 @@ use Rattle.bip379.specs.Correctness.{Context, isB, bothBKV}
 use Rattle.bip379.specs.Correctness as C
 use Rattle.bip379.specs.Malleability as M
 use Rattle.bip379.specs.Bip379.{andor, typeOf}
-use Rattle.bip379.specs.Agreement.{correct, malleable, letters, inLetters, rust}
+use Rattle.bip379.specs.Agreement.{correct, malleable, letters, inLetters, port}
 use Rattle.bip379.proofs.Every.{allBool, everyBool, allBase, everyBase, allInput, everyInput, allMalleability, everyMalleability}
 use Rattle.bip379.proofs.Rows.{sameCorrect, sameMalleable, rows-agree}
 
@@ -95,7 +95,7 @@ malls-agree x y z =
     (everyMalleability (λ x. allMalleability λ y. allMalleability λ z. sameM x y z) tt x) y) z
 
 pub andor-agrees : (ctx : Context) (x y z : «Type»)
-    → typeOf ctx (andor (letters x) (letters y) (letters z)) ≡ inLetters (rust (andor x y z))
+    → typeOf ctx (andor (letters x) (letters y) (letters z)) ≡ inLetters (port ctx (andor x y z))
 andor-agrees ctx x y z =
     rows-agree (C.andor (correct (x .corr)) (correct (y .corr)) (correct (z .corr))) (corr.andOr (x .corr) (y .corr) (z .corr))
     (M.andor (malleable (x .mall)) (malleable (y .mall)) (malleable (z .mall))) (mall.andOr (x .mall) (y .mall) (z .mall))

@@ -1,4 +1,4 @@
--- The two tables put together: where each agrees with the Rust's, so do the types. Assumes nothing.
+-- The two tables put together: where each agrees with the port's, so do the types. Assumes nothing.
 use mathlib.Core.Bool.{Bool, true, false}
 use mathlib.Core.Option.{Option, none, some}
 use mathlib.Core.Path.{_≡_, refl}

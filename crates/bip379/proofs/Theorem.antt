@@ -2,17 +2,17 @@
 use mathlib.Core.Bool.{Bool, true, false, not, _&&_, false≢true}
 use mathlib.Core.List.{map}
 use mathlib.Core.Option.{Option, none, some}
-use mathlib.Core.Path.{_≡_, refl, ap, _∙_}
+use mathlib.Core.Path.{_≡_, refl, sym, ap, _∙_}
 use lib.Dec.{leb}
 use lib.ListN.{length}
 use lib.Ieee.Fits.{and-l}
 use Rattle.types.specs.TypeRules.{kOfN}
-use Rattle.bip379.specs.Bip379.{Letters, leaf, andor, pair, thresh, wrap, leafType, Leaf}
+use Rattle.bip379.specs.Bip379.{Letters, leaf, andor, pair, thresh, wrap, leafType, Leaf, d:}
 use Rattle.bip379.specs.Bip379.{just-0, just-1, «pk_k», «pk_h», older, after, sha256, hash256, ripemd160, hash160, multi, «multi_a»}
 use Rattle.bip379.specs.Correctness.{firstBdu}
 use Rattle.bip379.specs.Malleability.{allM, allE, allS, notS}
-use Rattle.bip379.specs.Agreement.{letters, leafRule, Difference, same, u-of-d, e-of-thresh, z-of-c, onlyIf, amended}
-use Rattle.bip379.specs.Agreement.{AgreeButFor, Agreement, NoM}
+use Rattle.bip379.specs.Agreement.{letters, leafRule, Difference, same, e-of-thresh, z-of-c, onlyIf, amended}
+use Rattle.bip379.specs.Agreement.{inLetters, port, AgreeButFor, Agreement, DAgrees, NoM}
 use Rattle.bip379.proofs.Pairs.{pairs-agree}
 use Rattle.bip379.proofs.Andor.{andor-agrees}
 use Rattle.bip379.proofs.Wrappers.{wrappers-agree}
@@ -41,7 +41,6 @@ no-difference bip ours e = record { agree = e ∙ amended-same ours; differ = λ
 
 isE : Difference → Bool
 isE same = false
-isE u-of-d = false
 isE e-of-thresh = true
 isE z-of-c = false
 
@@ -67,3 +66,6 @@ agreement ctx (andor x y z) h = no-difference _ _ (andor-agrees ctx x y z)
 agreement ctx (pair F x y) h = no-difference _ _ (pairs-agree F x y)
 agreement ctx (thresh k xs) h = thresh-agrees ctx k xs (and-l (kOfN k (length xs)) _ h)
 agreement ctx (wrap F x) h = wrappers-agree ctx F x h
+
+pub d-agrees : DAgrees
+d-agrees ctx x h = agreement ctx (wrap d: x) h .agree ∙ sym (amended-same (inLetters (port ctx (wrap d: x))))

@@ -1,4 +1,4 @@
--- The wrappers agree, but for the differences named of c:X and d:X: both tables computed over every sane type. Assumes nothing.
+-- The wrappers agree, but for the difference named of c:X: both tables computed over every sane type. Assumes nothing.
 use mathlib.Core.Bool.{Bool, true, false, _&&_}
 use mathlib.Core.Option.{Option}
 use mathlib.Core.Path.{_≡_, refl}
@@ -10,7 +10,7 @@ use Rattle.bip379.specs.Rust.{«Type»}
 use Rattle.bip379.specs.Correctness.{Context, p2wsh, tapscript}
 use Rattle.bip379.specs.Bip379.{Letters, wrapperType, Wrapper, a:, s:, c:, d:, v:, j:, n:, t:, l:, u:}
 use Rattle.bip379.specs.Agreement.{letters, inLetters, wrapperRule, wrapperDifference, amended, AgreeButFor, NoKz}
-use Rattle.bip379.specs.Agreement.{Difference, same, u-of-d, e-of-thresh, z-of-c}
+use Rattle.bip379.specs.Agreement.{Difference, same, e-of-thresh, z-of-c}
 use Rattle.bip379.proofs.Every.{allType, everyType}
 use Rattle.bip379.proofs.Equal.{eqBool, eqLetters, letters-equal, equal-letters}
 
@@ -20,13 +20,11 @@ modus false b h t = absurd t
 
 abbrev isSame : Difference → Bool
 isSame same = true
-isSame u-of-d = false
 isSame e-of-thresh = false
 isSame z-of-c = false
 
 is-same : (D : Difference) → T (isSame D) → D ≡ same
 is-same same h = refl
-is-same u-of-d h = absurd h
 is-same e-of-thresh h = absurd h
 is-same z-of-c h = absurd h
 
@@ -40,7 +38,7 @@ told-same false b h t = absurd t
 
 abbrev wrapperTold : Context → Wrapper → «Type» → Bool
 wrapperTold ctx F x =
-    implies (sane x) (told (wrapperDifference ctx F (letters x)) (wrapperType ctx F (letters x)) (inLetters (wrapperRule F x)))
+    implies (sane x) (told (wrapperDifference F (letters x)) (wrapperType ctx F (letters x)) (inLetters (wrapperRule ctx F x)))
 
 wrappers-computed : (F : Wrapper) (ctx : Context) → T (allType λ x. wrapperTold ctx F x)
 wrappers-computed a: ctx = tt
@@ -56,11 +54,11 @@ wrappers-computed l: ctx = tt
 wrappers-computed u: ctx = tt
 
 pub wrappers-agree : (ctx : Context) (F : Wrapper) (x : «Type») → T (sane x)
-    → AgreeButFor (wrapperDifference ctx F (letters x)) (wrapperType ctx F (letters x)) (inLetters (wrapperRule F x))
+    → AgreeButFor (wrapperDifference F (letters x)) (wrapperType ctx F (letters x)) (inLetters (wrapperRule ctx F x))
 wrappers-agree ctx F x s =
-    let D = wrapperDifference ctx F (letters x) in
+    let D = wrapperDifference F (letters x) in
     let bip = wrapperType ctx F (letters x) in
-    let ours = inLetters (wrapperRule F x) in
+    let ours = inLetters (wrapperRule ctx F x) in
     let h = modus (sane x) (told D bip ours) (everyType (λ x. wrapperTold ctx F x) (wrappers-computed F ctx) x) s in
     let same? = and-r (eqLetters bip (amended D ours)) (eqBool (eqLetters bip ours) (isSame D)) h in
     record {
@@ -69,8 +67,8 @@ wrappers-agree ctx F x s =
     }
 
 -- over every type that arises, c:X is the same
-abbrev noKz : Context → «Type» → Bool
-noKz ctx x = implies (arises x) (isSame (wrapperDifference ctx c: (letters x)))
+abbrev noKz : «Type» → Bool
+noKz x = implies (arises x) (isSame (wrapperDifference c: (letters x)))
 
 pub no-Kz : NoKz
-no-Kz ctx x h = is-same _ (modus (arises x) (isSame (wrapperDifference ctx c: (letters x))) (everyType (λ x. noKz ctx x) tt x) h)
+no-Kz x h = is-same _ (modus (arises x) (isSame (wrapperDifference c: (letters x))) (everyType (λ x. noKz x) tt x) h)

@@ -1,5 +1,6 @@
--- The rules of the Rust (types/correctness.rs and types/malleability.rs, as the definitions of the `types` crate give them) against the
--- tables of BIP 379: both accept the same children and give the same letters, except at the differences that this file names.
+-- The port's rules (the Rust's types/correctness.rs and types/malleability.rs with u for d:X in Tapscript, as the definitions of the `types`
+-- crate give them) against the tables of BIP 379: both accept the same children and give the same letters in both contexts, except at the
+-- differences that this file names.
 use Prim.Native.Nat.{ℕ}
 use mathlib.Core.Bool.{Bool, true, false, not, _&&_}
 use mathlib.Core.List.{List, map}
@@ -12,9 +13,10 @@ use Rattle.bip379.specs.Rust as R
 use Rattle.correctness.specs.Letters.{isZero, isOne, isNonZero}
 use Rattle.malleability.specs.Letters.{isNone, isUnique}
 use Rattle.contexts.specs.Lists.{all}
+use Rattle.contexts.specs.declared.Context as Contexts
 use Rattle.types.specs.TypeRules as Rule
 use Rattle.types.specs.Sanity.{sane, arises}
-use Rattle.bip379.specs.Correctness.{Context, Correct, inTapscript, isK, isV, firstBdu}
+use Rattle.bip379.specs.Correctness.{Context, p2wsh, tapscript, Correct, isK, firstBdu}
 use Rattle.bip379.specs.Correctness as C
 use Rattle.bip379.specs.Malleability.{Malleable, allE, allS}
 use Rattle.bip379.specs.Malleability as M
@@ -22,7 +24,7 @@ use Rattle.bip379.specs.Bip379.{Letters, Fragment, leaf, andor, pair, th
 use Rattle.bip379.specs.Bip379.{just-0, just-1, «pk_k», «pk_h», older, after, sha256, hash256, ripemd160, hash160, multi, «multi_a»}
 use Rattle.bip379.specs.Bip379.{«and_v», «and_b», «or_b», «or_c», «or_d», «or_i», a:, s:, c:, d:, v:, j:, n:, t:, l:, u:}
 
--- The Rust's types in letters.
+-- The port's types in letters.
 
 abbrev pub baseLetter : Base → C.Base
 baseLetter R.B = C.B
@@ -51,7 +53,11 @@ abbrev pub inLetters : TypeResult → Option Letters
 inLetters (Ok x) = some (letters x)
 inLetters IllTyped = none
 
--- The Rust's rule for each fragment.
+-- The port's rule for each fragment. The context decides u of d:X and nothing else.
+
+abbrev pub inContext : Context → Contexts.Context
+inContext p2wsh = Contexts.the-variants.Segwitv0
+inContext tapscript = Contexts.the-variants.Tap
 
 abbrev pub leafRule : Leaf → «Type»
 leafRule just-0 = Rule.FALSE
@@ -75,75 +81,70 @@ pairRule «or_c» x y = Rule.orC x y
 pairRule «or_d» x y = Rule.orD x y
 pairRule «or_i» x y = Rule.orI x y
 
-abbrev pub wrapperRule : Wrapper → «Type» → TypeResult
-wrapperRule a: x = Rule.castAlt x
-wrapperRule s: x = Rule.castSwap x
-wrapperRule c: x = Rule.castCheck x
-wrapperRule d: x = Rule.castDupif x
-wrapperRule v: x = Rule.castVerify x
-wrapperRule j: x = Rule.castNonzero x
-wrapperRule n: x = Rule.castZeronotequal x
-wrapperRule t: x = Rule.castTrue x
-wrapperRule l: x = Rule.castLikely x
-wrapperRule u: x = Rule.castUnlikely x
+abbrev pub wrapperRule : Context → Wrapper → «Type» → TypeResult
+wrapperRule ctx a: x = Rule.castAlt x
+wrapperRule ctx s: x = Rule.castSwap x
+wrapperRule ctx c: x = Rule.castCheck x
+wrapperRule ctx d: x = Rule.castDupif (inContext ctx) x
+wrapperRule ctx v: x = Rule.castVerify x
+wrapperRule ctx j: x = Rule.castNonzero x
+wrapperRule ctx n: x = Rule.castZeronotequal x
+wrapperRule ctx t: x = Rule.castTrue x
+wrapperRule ctx l: x = Rule.castLikely x
+wrapperRule ctx u: x = Rule.castUnlikely x
 
-abbrev pub rust : Fragment «Type» → TypeResult
-rust (leaf F) = Ok (leafRule F)
-rust (andor x y z) = Rule.andOr x y z
-rust (pair F x y) = pairRule F x y
-rust (thresh k xs) = Rule.threshold k xs
-rust (wrap F x) = wrapperRule F x
+abbrev pub port : Context → Fragment «Type» → TypeResult
+port ctx (leaf F) = Ok (leafRule F)
+port ctx (andor x y z) = Rule.andOr x y z
+port ctx (pair F x y) = pairRule F x y
+port ctx (thresh k xs) = Rule.threshold k xs
+port ctx (wrap F x) = wrapperRule ctx F x
 
--- The differences, one letter each.
+-- The differences, one letter each, the same in both contexts.
 
 pub data Difference : Type 0 where
-  same u-of-d e-of-thresh z-of-c : Difference
+  same e-of-thresh z-of-c : Difference
 
 abbrev pub onlyIf : Bool → Difference → Difference
 onlyIf true D = D
 onlyIf false D = same
 
-abbrev pub wrapperDifference : Context → Wrapper → Letters → Difference
-wrapperDifference ctx a: X = same
-wrapperDifference ctx s: X = same
--- the Rust keeps z, the BIP has none here: it knows that no K is z
-wrapperDifference ctx c: X = onlyIf (isK (X .corr) && X .corr .z) z-of-c
--- the BIP grants u in Tapscript, the Rust in neither context
-wrapperDifference ctx d: X = onlyIf (inTapscript ctx && isV (X .corr) && X .corr .z) u-of-d
-wrapperDifference ctx v: X = same
-wrapperDifference ctx j: X = same
-wrapperDifference ctx n: X = same
-wrapperDifference ctx t: X = same
-wrapperDifference ctx l: X = same
-wrapperDifference ctx u: X = same
+abbrev pub wrapperDifference : Wrapper → Letters → Difference
+wrapperDifference a: X = same
+wrapperDifference s: X = same
+-- the port keeps z, the BIP has none here: it knows that no K is z
+wrapperDifference c: X = onlyIf (isK (X .corr) && X .corr .z) z-of-c
+wrapperDifference d: X = same
+wrapperDifference v: X = same
+wrapperDifference j: X = same
+wrapperDifference n: X = same
+wrapperDifference t: X = same
+wrapperDifference l: X = same
+wrapperDifference u: X = same
 
--- the BIP grants e where all are s, the Rust where all are s and e
+-- the BIP grants e where all are s, the port where all are s and e
 abbrev pub threshDifference : List Letters → Difference
 threshDifference Xs =
     let corrs = map (λ X. X .corr) Xs in
     let malls = map (λ X. X .mall) Xs in
     onlyIf (firstBdu corrs && allS malls && not (allE malls)) e-of-thresh
 
-abbrev pub difference : Context → Fragment Letters → Difference
-difference ctx (leaf F) = same
-difference ctx (andor X Y Z) = same
-difference ctx (pair F X Y) = same
-difference ctx (thresh k Xs) = threshDifference Xs
-difference ctx (wrap F X) = wrapperDifference ctx F X
+abbrev pub difference : Fragment Letters → Difference
+difference (leaf F) = same
+difference (andor X Y Z) = same
+difference (pair F X Y) = same
+difference (thresh k Xs) = threshDifference Xs
+difference (wrap F X) = wrapperDifference F X
 
 abbrev pub withZ : Bool → Correct → Correct
 withZ b X = record { base = X .base; z = b; o = X .o; n = X .n; d = X .d; u = X .u }
 
-abbrev pub withU : Bool → Correct → Correct
-withU b X = record { base = X .base; z = X .z; o = X .o; n = X .n; d = X .d; u = b }
-
 abbrev pub withE : Bool → Malleable → Malleable
 withE b X = record { m = X .m; s = X .s; f = X .f; e = b }
 
--- the BIP's letters, from the Rust's
+-- the BIP's letters, from the port's
 abbrev pub amend : Difference → Letters → Letters
 amend same X = X
-amend u-of-d X = record { corr = withU true (X .corr); mall = X .mall }
 amend e-of-thresh X = record { corr = X .corr; mall = withE true (X .mall) }
 amend z-of-c X = record { corr = withZ false (X .corr); mall = X .mall }
 
@@ -160,18 +161,22 @@ saneChildren (pair F x y) = sane x && sane y
 saneChildren (thresh k xs) = Rule.kOfN k (length xs) && all sane xs
 saneChildren (wrap F x) = sane x
 
--- the BIP's answer is the Rust's as amended, and is another wherever a difference is named
+-- the BIP's answer is the port's as amended, and is another wherever a difference is named
 pub record AgreeButFor (D : Difference) (bip : Option Letters) (ours : Option Letters) : Type 0 where
   pub agree : bip ≡ amended D ours
   pub differ : ¬ (D ≡ same) → ¬ (bip ≡ ours)
 
 abbrev pub Agreement : Type 0
 Agreement = (ctx : Context) (f : Fragment «Type») → T (saneChildren f)
-    → AgreeButFor (difference ctx (over letters f)) (typeOf ctx (over letters f)) (inLetters (rust f))
+    → AgreeButFor (difference (over letters f)) (typeOf ctx (over letters f)) (inLetters (port ctx f))
+
+-- d:X agrees in both contexts: it has u in Tapscript, and not in P2WSH
+abbrev pub DAgrees : Type 0
+DAgrees = (ctx : Context) (x : «Type») → T (sane x) → typeOf ctx (wrap d: (letters x)) ≡ inLetters (port ctx (wrap d: x))
 
 -- z-of-c is met by no type that arises from the rules
 abbrev pub NoKz : Type 0
-NoKz = (ctx : Context) (x : «Type») → T (arises x) → difference ctx (wrap c: (letters x)) ≡ same
+NoKz = (x : «Type») → T (arises x) → difference (wrap c: (letters x)) ≡ same
 
 -- where e-of-thresh is met the whole has no m
 abbrev pub NoM : Type 0

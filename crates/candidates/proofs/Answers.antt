@@ -5,6 +5,7 @@ use Prim.Native.Nat.{ℕ, zero, suc, _<_, _≤_}
 use native.Mathlib.Omega.{arith}
 use borrow.Author.Tests.{ne-eqb}
 use lib.Ieee.{Float}
+use Rattle.contexts.specs.declared.Context.{Context}
 use Rattle.types.specs.declared.«Type».{«Type»}
 use Rattle.types.specs.declared.TypeResult.{TypeResult}
 use Rattle.types.specs.declared.TypeResult.the-variants as TypeResult
@@ -47,19 +48,19 @@ abbrev NoCast : ℕ → Type 0
 NoCast n =
     (((((((((Unit {0} × n ≢ 0) × n ≢ 1) × n ≢ 2) × n ≢ 3) × n ≢ 4) × n ≢ 5) × n ≢ 6) × n ≢ 7) × n ≢ 8) × n ≢ 9
 
-pub cast-unknown : (number : ℕ) (x : Candidate) (node : ℕ) → NoCast number → Unknown ≡ castOf number x node
+pub cast-unknown : (context : Context) (number : ℕ) (x : Candidate) (node : ℕ) → NoCast number → Unknown ≡ castOf context number x node
 unfolding castFrom
-cast-unknown zero x node r = absurd (r .0 .0 .0 .0 .0 .0 .0 .0 .0 .1 refl)
-cast-unknown (suc zero) x node r = absurd (r .0 .0 .0 .0 .0 .0 .0 .0 .1 refl)
-cast-unknown (suc (suc zero)) x node r = absurd (r .0 .0 .0 .0 .0 .0 .0 .1 refl)
-cast-unknown (suc (suc (suc zero))) x node r = absurd (r .0 .0 .0 .0 .0 .0 .1 refl)
-cast-unknown (suc (suc (suc (suc zero)))) x node r = absurd (r .0 .0 .0 .0 .0 .1 refl)
-cast-unknown (suc (suc (suc (suc (suc zero))))) x node r = absurd (r .0 .0 .0 .0 .1 refl)
-cast-unknown (suc (suc (suc (suc (suc (suc zero)))))) x node r = absurd (r .0 .0 .0 .1 refl)
-cast-unknown (suc (suc (suc (suc (suc (suc (suc zero))))))) x node r = absurd (r .0 .0 .1 refl)
-cast-unknown (suc (suc (suc (suc (suc (suc (suc (suc zero)))))))) x node r = absurd (r .0 .1 refl)
-cast-unknown (suc (suc (suc (suc (suc (suc (suc (suc (suc zero))))))))) x node r = absurd (r .1 refl)
-cast-unknown (suc (suc (suc (suc (suc (suc (suc (suc (suc (suc n)))))))))) x node r = refl
+cast-unknown context zero x node r = absurd (r .0 .0 .0 .0 .0 .0 .0 .0 .0 .1 refl)
+cast-unknown context (suc zero) x node r = absurd (r .0 .0 .0 .0 .0 .0 .0 .0 .1 refl)
+cast-unknown context (suc (suc zero)) x node r = absurd (r .0 .0 .0 .0 .0 .0 .0 .1 refl)
+cast-unknown context (suc (suc (suc zero))) x node r = absurd (r .0 .0 .0 .0 .0 .0 .1 refl)
+cast-unknown context (suc (suc (suc (suc zero)))) x node r = absurd (r .0 .0 .0 .0 .0 .1 refl)
+cast-unknown context (suc (suc (suc (suc (suc zero))))) x node r = absurd (r .0 .0 .0 .0 .1 refl)
+cast-unknown context (suc (suc (suc (suc (suc (suc zero)))))) x node r = absurd (r .0 .0 .0 .1 refl)
+cast-unknown context (suc (suc (suc (suc (suc (suc (suc zero))))))) x node r = absurd (r .0 .0 .1 refl)
+cast-unknown context (suc (suc (suc (suc (suc (suc (suc (suc zero)))))))) x node r = absurd (r .0 .1 refl)
+cast-unknown context (suc (suc (suc (suc (suc (suc (suc (suc (suc zero))))))))) x node r = absurd (r .1 refl)
+cast-unknown context (suc (suc (suc (suc (suc (suc (suc (suc (suc (suc n)))))))))) x node r = refl
 
 -- pairs and triples
 

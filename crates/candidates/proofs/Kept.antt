@@ -6,6 +6,7 @@ use Prim.Native.Nat.{ℕ, zero, suc, _+_}
 use native.Mathlib.Omega.{arith}
 use lib.Dec.{eqb}
 use lib.Ieee.{Float}
+use Rattle.contexts.specs.declared.Context.{Context}
 use Rattle.types.specs.declared.«Type».{«Type»}
 use Rattle.types.specs.declared.TypeResult.{TypeResult}
 use Rattle.types.specs.declared.TypeResult.the-variants as TypeResult
@@ -52,19 +53,19 @@ module _ {h : ℕ} (x : Candidate) (e : Entered h (x .ext)) (node : ℕ) {y : Ca
       subst (λ (f : ExtData). bounds.Candidate (h + 1) f)
       (cast-ext (row .kind) (row .children node) (row .typeRule (x .ty)) (row .extRule (x .ext)) (row .costRule (x .cost)) m) b
 
-  pub cast-kept : (number : ℕ) → castOf number x node ≡ Cast y → bounds.Candidate (h + 1) (y .ext)
+  pub cast-kept : (context : Context) (number : ℕ) → castOf context number x node ≡ Cast y → bounds.Candidate (h + 1) (y .ext)
   unfolding castFrom
-  cast-kept zero m = kept casts.check (entering.check-candidate e) m
-  cast-kept (suc zero) m = kept casts.dupif (entering.dupif-candidate e) m
-  cast-kept (suc (suc zero)) m = kept casts.likely (entering.cast-likely-candidate e) m
-  cast-kept (suc (suc (suc zero))) m = kept casts.unlikely (entering.cast-unlikely-candidate e) m
-  cast-kept (suc (suc (suc (suc zero)))) m = kept casts.verify (entering.verify-candidate e) m
-  cast-kept (suc (suc (suc (suc (suc zero))))) m = kept casts.nonzero (entering.nonzero-candidate e) m
-  cast-kept (suc (suc (suc (suc (suc (suc zero)))))) m = kept casts.true′ (entering.cast-true-candidate e) m
-  cast-kept (suc (suc (suc (suc (suc (suc (suc zero))))))) m = kept casts.swap (entering.swap-candidate e) m
-  cast-kept (suc (suc (suc (suc (suc (suc (suc (suc zero)))))))) m = kept casts.alt (entering.alt-candidate e) m
-  cast-kept (suc (suc (suc (suc (suc (suc (suc (suc (suc zero))))))))) m = kept casts.zeronotequal (entering.zeronotequal-candidate e) m
-  cast-kept (suc (suc (suc (suc (suc (suc (suc (suc (suc (suc n)))))))))) m = absurd (none-known m)
+  cast-kept context zero m = kept casts.check (entering.check-candidate e) m
+  cast-kept context (suc zero) m = kept (casts.dupif context) (entering.dupif-candidate e) m
+  cast-kept context (suc (suc zero)) m = kept casts.likely (entering.cast-likely-candidate e) m
+  cast-kept context (suc (suc (suc zero))) m = kept casts.unlikely (entering.cast-unlikely-candidate e) m
+  cast-kept context (suc (suc (suc (suc zero)))) m = kept casts.verify (entering.verify-candidate e) m
+  cast-kept context (suc (suc (suc (suc (suc zero))))) m = kept casts.nonzero (entering.nonzero-candidate e) m
+  cast-kept context (suc (suc (suc (suc (suc (suc zero)))))) m = kept casts.true′ (entering.cast-true-candidate e) m
+  cast-kept context (suc (suc (suc (suc (suc (suc (suc zero))))))) m = kept casts.swap (entering.swap-candidate e) m
+  cast-kept context (suc (suc (suc (suc (suc (suc (suc (suc zero)))))))) m = kept casts.alt (entering.alt-candidate e) m
+  cast-kept context (suc (suc (suc (suc (suc (suc (suc (suc (suc zero))))))))) m = kept casts.zeronotequal (entering.zeronotequal-candidate e) m
+  cast-kept context (suc (suc (suc (suc (suc (suc (suc (suc (suc (suc n)))))))))) m = absurd (none-known m)
 
 module _ {h : ℕ} (l r : Candidate) (p : Entered h (l .ext)) (q : Entered h (r .ext)) (lNode rNode : ℕ) (lprob rprob : Float) {y : Candidate} where
   kept-pair : (row : pairs.Row) → bounds.Candidate (h + 1) (row .extRule (l .ext) (r .ext))

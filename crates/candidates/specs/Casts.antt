@@ -1,6 +1,7 @@
 -- The ten casts, from Cast and all_casts in policy/compiler.rs: document 01, "Modules, leaves first", 4.
 use mathlib.Core.List.{List, [], _∷_}
 use Prim.Native.Nat.{ℕ, zero, suc}
+use Rattle.contexts.specs.declared.Context.{Context}
 use Rattle.types.specs.declared.«Type».{«Type»}
 use Rattle.types.specs.declared.TypeResult.{TypeResult}
 use Rattle.types.specs.declared.TypeResult.the-variants as TypeResult
@@ -47,8 +48,8 @@ row kind children t e c = record { kind = kind; children = children; typeRule = 
 abbrev pub check : Row
 check = row Check X type.castCheck ext.castCheck cost.castCheck
 
-abbrev pub dupif : Row
-dupif = row DupIf X type.castDupif ext.castDupif cost.castDupif
+abbrev pub dupif : Context → Row
+dupif context = row DupIf X (type.castDupif context) ext.castDupif cost.castDupif
 
 abbrev pub likely : Row
 likely = row OrI False-X type.castLikely ext.castLikely cost.castLikely
@@ -75,8 +76,8 @@ abbrev pub zeronotequal : Row
 zeronotequal = row ZeroNotEqual X type.castZeronotequal ext.castZeronotequal cost.castZeronotequal
 
 -- in the order in which they are tried
-abbrev pub allCasts : List Row
-allCasts = check ∷ dupif ∷ likely ∷ unlikely ∷ verify ∷ nonzero ∷ true′ ∷ swap ∷ alt ∷ zeronotequal ∷ []
+abbrev pub allCasts : Context → List Row
+allCasts context = check ∷ dupif context ∷ likely ∷ unlikely ∷ verify ∷ nonzero ∷ true′ ∷ swap ∷ alt ∷ zeronotequal ∷ []
 
 -- a candidate unless the type rule says ill-typed
 abbrev pub castAs : ℕ → Children → TypeResult → ExtData → Cost → CastResult
@@ -93,5 +94,5 @@ castFrom (r ∷ rows) zero x node = castBy r x node
 castFrom (r ∷ rows) (suc number) x node = castFrom rows number x node
 
 -- the cast of a number, 0 for the first
-abbrev pub castOf : ℕ → Candidate → ℕ → CastResult
-castOf number = castFrom allCasts number
+abbrev pub castOf : Context → ℕ → Candidate → ℕ → CastResult
+castOf context number = castFrom (allCasts context) number

@@ -278,12 +278,12 @@ impl Candidate {
         }
     }
 
-    // The cast DupIf of this, which is node `node`.
-    pub fn cast_dupif(self, node: u16) -> CastResult
+    // The cast DupIf of this, which is node `node`, in a context.
+    pub fn cast_dupif(self, context: Context, node: u16) -> CastResult
         requires { ⌜ Small (self .ext) ⌝ }
-        ensures { λ r. ⌜ r ≡ castBy dupif self node ⌝ }
+        ensures { λ r. ⌜ r ≡ castBy (dupif context) self node ⌝ }
     {
-        match self.ty.cast_dupif() {
+        match self.ty.cast_dupif(context) {
             TypeResult::Ok(ty) => {
                 let ext = self.ext.cast_dupif();
                 let cost = self.cost.cast_dupif();
@@ -413,14 +413,14 @@ impl Candidate {
         }
     }
 
-    // The cast of a number, of this, which is node `node`.
-    pub fn cast(self, node: u16, number: u8) -> CastResult
+    // The cast of a number, of this, which is node `node`, in a context.
+    pub fn cast(self, context: Context, node: u16, number: u8) -> CastResult
         requires { ⌜ Small (self .ext) ⌝ }
-        ensures { λ r. ⌜ r ≡ castOf number self node ⌝ }
+        ensures { λ r. ⌜ r ≡ castOf context number self node ⌝ }
     {
         match number {
             0 => self.cast_check(node),
-            1 => self.cast_dupif(node),
+            1 => self.cast_dupif(context, node),
             2 => self.cast_likely(node),
             3 => self.cast_unlikely(node),
             4 => self.cast_verify(node),

@@ -31,14 +31,14 @@ use Rattle.closure.proofs.Offering.{closed}
 -- before the cast of a number, in memory m, with the table t
 pub record Casting (c : Context) (p : Probs) (e : ℕ) (t₀ : Table) (m₀ : List ℕ) (number : ℕ) (t : Table) (m : List ℕ) : Type 0 where
   pub says : (pol : List ℕ) (ts : List Stored) (h : ℕ) → h ≤ nodeCount m₀ →
-      castAll c p (seen pol m₀ e) (drop number allCasts) (queueAt pol m t h) (stateOf m ts)
-      ≡ castAll c p (seen pol m₀ e) allCasts (queueAt pol m₀ t₀ h) (stateOf m₀ ts)
+      castAll c p (seen pol m₀ e) (drop number (allCasts c)) (queueAt pol m t h) (stateOf m ts)
+      ≡ castAll c p (seen pol m₀ e) (allCasts c) (queueAt pol m₀ t₀ h) (stateOf m₀ ts)
   pub extends : Extends m₀ m
   pub table : TableHolds m t
 
 -- the casts of node e after the cast of a number
 abbrev others : Context → Probs → (pol m : List ℕ) → (e number : ℕ) → Queued → M Queued
-others c p pol m e number = castAll c p (seen pol m e) (drop (suc number) allCasts)
+others c p pol m e number = castAll c p (seen pol m e) (drop (suc number) (allCasts c))
 
 module _ (c : Context) (p : Probs) {e : ℕ} {t₀ : Table} {m₀ : List ℕ} where
   pub casting-begins : Holds m₀ → TableHolds m₀ t₀ → Casting c p e t₀ m₀ 0 t₀ m₀
@@ -52,7 +52,7 @@ module _ (c : Context) (p : Probs) {e : ℕ} {t₀ : Table} {m₀ : List ℕ} wh
         says =
             λ pol ts h few.
             sym (i .says pol ts h few)
-            ∙ ap (λ (n : ℕ). castAll c p (seen pol m₀ e) (drop n allCasts) (queueAt pol m t h) (stateOf m ts)) is
+            ∙ ap (λ (n : ℕ). castAll c p (seen pol m₀ e) (drop n (allCasts c)) (queueAt pol m t h) (stateOf m ts)) is
             ∙ castAll-none c p (seen pol m₀ e) (queueAt pol m t h) (stateOf m ts);
         extends = i .extends;
         table = i .table;
@@ -62,12 +62,12 @@ module _ (c : Context) (p : Probs) {e : ℕ} {t₀ : Table} {m₀ : List ℕ} wh
       {r : Closed} {m′ : List ℕ} (one : OfferedCast c p e number t r m m′) where
     -- the next cast, then the others
     step : (pol : List ℕ) (ts : List Stored) (h : ℕ) → h ≤ nodeCount m₀ →
-        castAll c p (seen pol m₀ e) (drop number allCasts) (queueAt pol m t h) (stateOf m ts)
+        castAll c p (seen pol m₀ e) (drop number (allCasts c)) (queueAt pol m t h) (stateOf m ts)
         ≡ then (answer (r .end) (queueAt pol m′ (r .table) h) (stateOf m′ ts)) (others c p pol m₀ e number)
     step pol ts h le =
-        ap (λ (fs : List Cast). castAll c p (seen pol m₀ e) fs (queueAt pol m t h) (stateOf m ts)) (casts-from number few)
-        ∙ castAll-next c p (seen pol m₀ e) (castNo number) (drop (suc number) allCasts) (queueAt pol m t h) (stateOf m ts)
-        ∙ ap (λ (x : Candidate). then (offer c p (castNo number x) (queueAt pol m t h) (stateOf m ts)) (others c p pol m₀ e number))
+        ap (λ (fs : List Cast). castAll c p (seen pol m₀ e) fs (queueAt pol m t h) (stateOf m ts)) (casts-from c number few)
+        ∙ castAll-next c p (seen pol m₀ e) (castNo c number) (drop (suc number) (allCasts c)) (queueAt pol m t h) (stateOf m ts)
+        ∙ ap (λ (x : Candidate). then (offer c p (castNo c number x) (queueAt pol m t h) (stateOf m ts)) (others c p pol m₀ e number))
         (sym (seen-kept holds (i .extends .grows) pol e l))
         ∙ ap (λ (a : Res Queued). then a (others c p pol m₀ e number)) (one .says pol ts h (omega (arith, i .extends .grows .more)))
 
@@ -88,7 +88,7 @@ module _ (c : Context) (p : Probs) {e : ℕ} {t₀ : Table} {m₀ : List ℕ} wh
         record {
           says =
               λ pol ts h le.
-              ap (λ (n : ℕ). castAll c p (seen pol m₀ e) (drop n allCasts) (queueAt pol m′ (r .table) h) (stateOf m′ ts)) (add-one number)
+              ap (λ (n : ℕ). castAll c p (seen pol m₀ e) (drop n (allCasts c)) (queueAt pol m′ (r .table) h) (stateOf m′ ts)) (add-one number)
               ∙ sym (step pol ts h le
               ∙ then-done (others c p pol m₀ e number) (ap (λ (end : End). answer end (queueAt pol m′ (r .table) h) (stateOf m′ ts)) is))
               ∙ i .says pol ts h le;

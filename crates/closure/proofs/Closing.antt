@@ -147,7 +147,7 @@ module _ (c : Context) (p : Probs) {first : ℕ} {t₁ : Table} {m₁ : List ℕ
         ∙ closure-pops c p (maxPops - suc pops) (seenTable pol m t) (seen pol m (first + pops)) (waiting pol m (suc (first + pops))) (stateOf m ts)
         ∙ ap
         (λ (e : ℕ).
-        then (castAll c p (seen pol m e) allCasts (queueAt pol m t (suc (first + pops))) (stateOf m ts)) (closure c p (maxPops - suc pops)))
+        then (castAll c p (seen pol m e) (allCasts c) (queueAt pol m t (suc (first + pops))) (stateOf m ts)) (closure c p (maxPops - suc pops)))
         (sym at)
         ∙ ap (λ (a : Res Queued). then a (closure c p (maxPops - suc pops))) (all .says pol ts (suc (first + pops)) (omega arith))
 

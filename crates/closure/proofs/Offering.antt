@@ -40,9 +40,9 @@ pub node-small : (m : List ℕ) (e : ℕ) {x : code.Candidate} → x ≡ nodeAt 
 node-small m e is = rw is (small-at m e)
 
 -- the cast of a node that was read is the node's cast
-pub cast-told : (m : List ℕ) (e number : ℕ) {x : code.Candidate} {r s : CastResult} → x ≡ nodeAt m e → r ≡ castOf number x e → r ≡ s →
-    castOf number (nodeAt m e) e ≡ s
-cast-told m e number node cast told = sym (ap (λ (x : code.Candidate). castOf number x e) node) ∙ sym cast ∙ told
+pub cast-told : (c : Context) (m : List ℕ) (e number : ℕ) {x : code.Candidate} {r s : CastResult} → x ≡ nodeAt m e →
+    r ≡ castOf c number x e → r ≡ s → castOf c number (nodeAt m e) e ≡ s
+cast-told c m e number node cast told = sym (ap (λ (x : code.Candidate). castOf c number x e) node) ∙ sym cast ∙ told
 
 module _ (c : Context) (p : Probs) {x : code.Candidate} {t : Table} {step : Step} {m₀ m : List ℕ} (ins : Inserted c p x t step m₀ m) where
   -- an accepted candidate joins those that wait
@@ -77,11 +77,11 @@ module _ (c : Context) (p : Probs) {x : code.Candidate} {t : Table} {step : Step
 
 module _ (c : Context) (p : Probs) {m₀ : List ℕ} (holds : Holds m₀) {e : ℕ} (l : e < nodeCount m₀) (number : ℕ) where
   -- the definition's cast is what the code's stands for
-  cast-is : {r : CastResult} → castOf number (nodeAt m₀ e) e ≡ r → (pol : List ℕ) → castNo number (seen pol m₀ e) ≡ castSeen pol m₀ r
-  cast-is is pol = sym (cast-seen holds pol e l number) ∙ ap (castSeen pol m₀) is
+  cast-is : {r : CastResult} → castOf c number (nodeAt m₀ e) e ≡ r → (pol : List ℕ) → castNo c number (seen pol m₀ e) ≡ castSeen pol m₀ r
+  cast-is is pol = sym (cast-seen holds pol e l c number) ∙ ap (castSeen pol m₀) is
 
   -- no candidate
-  pub nothing-offered : {r : CastResult} → castOf number (nodeAt m₀ e) e ≡ r → ((pol : List ℕ) → castSeen pol m₀ r ≡ none) →
+  pub nothing-offered : {r : CastResult} → castOf c number (nodeAt m₀ e) e ≡ r → ((pol : List ℕ) → castSeen pol m₀ r ≡ none) →
       {t : Table} → TableHolds m₀ t → OfferedCast c p e number t (closed t Done) m₀ m₀
   nothing-offered is nothing {t} table =
       record {
@@ -93,10 +93,10 @@ module _ (c : Context) (p : Probs) {m₀ : List ℕ} (holds : Holds m₀) {e : �
         table = table;
       }
 
-  module _ {y : code.Candidate} (is : castOf number (nodeAt m₀ e) e ≡ Cast y) {t : Table} {step : Step} {m : List ℕ}
+  module _ {y : code.Candidate} (is : castOf c number (nodeAt m₀ e) e ≡ Cast y) {t : Table} {step : Step} {m : List ℕ}
       (ins : Inserted c p y t step m₀ m) where
     some-offered : (pol : List ℕ) (q : List Candidate) (s : State) →
-        offer c p (castNo number (seen pol m₀ e)) (queued (seenTable pol m₀ t) q) s
+        offer c p (castNo c number (seen pol m₀ e)) (queued (seenTable pol m₀ t) q) s
         ≡ offer c p (some (offered pol m₀ y)) (queued (seenTable pol m₀ t) q) s
     some-offered pol q s = ap (λ (o : Option Candidate). offer c p o (queued (seenTable pol m₀ t) q) s) (cast-is is pol)
 

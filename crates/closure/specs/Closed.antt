@@ -35,7 +35,7 @@ answer (Refused n) a s = refused n
 -- one cast of node e, offered while the nodes from h on wait
 pub record OfferedCast (c : Context) (p : Probs) (e number : ℕ) (t : Table) (r : Closed) (m₀ m : List ℕ) : Type 0 where
   pub says : (pol : List ℕ) (ts : List Stored) (h : ℕ) → h ≤ nodeCount m₀ →
-      offer c p (castNo number (seen pol m₀ e)) (queued (seenTable pol m₀ t) (waiting pol m₀ h)) (stateOf m₀ ts)
+      offer c p (castNo c number (seen pol m₀ e)) (queued (seenTable pol m₀ t) (waiting pol m₀ h)) (stateOf m₀ ts)
       ≡ answer (r .end) (queued (seenTable pol m (r .table)) (waiting pol m h)) (stateOf m ts)
   pub extends : Extends m₀ m
   pub table : TableHolds m (r .table)
@@ -43,7 +43,7 @@ pub record OfferedCast (c : Context) (p : Probs) (e number : ℕ) (t : Table) (r
 -- all ten casts of node e
 pub record OfferedCasts (c : Context) (p : Probs) (e : ℕ) (t : Table) (r : Closed) (m₀ m : List ℕ) : Type 0 where
   pub says : (pol : List ℕ) (ts : List Stored) (h : ℕ) → h ≤ nodeCount m₀ →
-      castAll c p (seen pol m₀ e) allCasts (queued (seenTable pol m₀ t) (waiting pol m₀ h)) (stateOf m₀ ts)
+      castAll c p (seen pol m₀ e) (allCasts c) (queued (seenTable pol m₀ t) (waiting pol m₀ h)) (stateOf m₀ ts)
       ≡ answer (r .end) (queued (seenTable pol m (r .table)) (waiting pol m h)) (stateOf m ts)
   pub extends : Extends m₀ m
   pub table : TableHolds m (r .table)

@@ -49,7 +49,7 @@ fn offer_cast(
     ensures { λ r. ⌜ OfferedCast context (probs sat dissat) e number t r (now (work .entry)) (now (work .exit)) ⌝ }
 {
     let x = nodes::node(work, e);
-    match x.cast(e, number) {
+    match x.cast(context, e, number) {
         CastResult::Cast(y) => {
             let step = table::insert(context, work, sat, dissat, y, t);
             let table = step.table;

@@ -7,6 +7,8 @@ use Rattle.correctness.specs.Names.{Base, B, K, «V», W, Input, Zero, O
 use Rattle.correctness.specs.declared.CorrectnessResult.the-variants.{Ok, IllTyped}
 use Rattle.correctness.specs.Letters.{isB, isK, isV, isW, baseEq, isZero, isOne, isNonZero}
 use Rattle.contexts.specs.Lists.{all, sum}
+use Rattle.contexts.specs.declared.Context.{Context}
+use Rattle.contexts.specs.declared.Context.the-variants.{Segwitv0, Tap}
 
 -- a base, an input, d and u
 abbrev pub correctness : Base → Input → Bool → Bool → Correctness
@@ -56,8 +58,13 @@ castSwap c = okIf (isB (c .base) && isOne (c .input)) (correctness W Any (c .dis
 abbrev pub castCheck : Correctness → CorrectnessResult
 castCheck c = okIf (isK (c .base)) (correctness B (c .input) (c .dissatisfiable) true)
 
-abbrev pub castDupif : Correctness → CorrectnessResult
-castDupif c = okIf (isV (c .base) && isZero (c .input)) (correctness B OneNonZero true false)
+-- d:X is u in Tapscript alone, where IF takes nothing but the empty element and the byte 1: document 02, R-5
+abbrev pub dupifUnit : Context → Bool
+dupifUnit Segwitv0 = false
+dupifUnit Tap = true
+
+abbrev pub castDupif : Context → Correctness → CorrectnessResult
+castDupif context c = okIf (isV (c .base) && isZero (c .input)) (correctness B OneNonZero true (dupifUnit context))
 
 abbrev pub castVerify : Correctness → CorrectnessResult
 castVerify c = okIf (isB (c .base)) (correctness «V» (c .input) false false)

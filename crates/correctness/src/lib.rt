@@ -3,12 +3,13 @@
 ghost use mathlib.Core.Path.{_≡_};
 ghost use Rattle.correctness.specs.Letters.{isB, isK, isV, isW, baseEq, isZero, isOne, isNonZero};
 ghost use Rattle.correctness.specs.CorrectnessRules.{correctness, okIf, TRUE, FALSE, pkK, pkH, multi, multiA, hash, time};
-ghost use Rattle.correctness.specs.CorrectnessRules.{castAlt, castSwap, castCheck, castDupif, castVerify, castNonzero};
+ghost use Rattle.correctness.specs.CorrectnessRules.{castAlt, castSwap, castCheck, dupifUnit, castDupif, castVerify, castNonzero};
 ghost use Rattle.correctness.specs.CorrectnessRules.{castZeronotequal, castTrue, castOrIFalse};
 ghost use Rattle.correctness.specs.CorrectnessRules.{isBdu, sameBKV, oneIfZero, andInput, orBInput, orDInput, orIInput, branchInput, andOrInput};
 ghost use Rattle.correctness.specs.CorrectnessRules.{numArgs, thresholdInput, andB, andV, orB, orD, orC, orI, andOr};
 ghost use Rattle.correctness.specs.ThresholdSteps.{corrFirst, corrNext, corrResult};
 ghost use Rattle.correctness.specs.Digits.{baseRank, inputRank, baseOf, inputOf, unpackCorr};
+use contexts::Context;
 
 // Where a fragment can stand.
 pub enum Base {
@@ -180,6 +181,16 @@ fn ok_if(met: bool, base: Base, input: Input, dissatisfiable: bool, unit: bool) 
         })
     } else {
         CorrectnessResult::IllTyped
+    }
+}
+
+// Whether d:X has u in a context.
+fn dupif_unit(context: Context) -> bool
+    ensures { λ r. ⌜ r ≡ dupifUnit context ⌝ }
+{
+    match context {
+        Context::Segwitv0 => false,
+        Context::Tap => true,
     }
 }
 
@@ -386,9 +397,9 @@ impl Correctness {
         ok_if(base.is_k(), Base::B, input, self.dissatisfiable, true)
     }
 
-    // The correctness of d:X.
-    pub fn cast_dupif(self) -> CorrectnessResult
-        ensures { λ r. ⌜ r ≡ castDupif self ⌝ }
+    // The correctness of d:X in a context.
+    pub fn cast_dupif(self, context: Context) -> CorrectnessResult
+        ensures { λ r. ⌜ r ≡ castDupif context self ⌝ }
     {
         let base = self.base;
         let input = self.input;
@@ -397,7 +408,7 @@ impl Correctness {
             Base::B,
             Input::OneNonZero,
             true,
-            false,
+            dupif_unit(context),
         )
     }
 

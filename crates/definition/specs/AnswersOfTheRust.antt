@@ -1,5 +1,5 @@
--- Answers of the Rust, from the stored list crates/oracle_replay/data/compile.txt, which the definition of compile gives too: all policy kinds, both contexts,
--- done and refused. The bytes of policies and trees are written as there.
+-- Answers of the Rust (in context 1 with u for d:X), from the stored list crates/oracle_replay/data/compile.txt, which the definition of
+-- compile gives too: all policy kinds, both contexts, done and refused. The bytes of policies and trees are written as there.
 use mathlib.Core.Bool.{Bool, true, false, _&&_}
 use mathlib.Core.List.{List, [], _∷_, _++_}
 use Prim.Native.Nat.{ℕ, zero, suc, _/_, _%_}
@@ -56,7 +56,7 @@ few =
     ∷ answered 1 (hex 8 0x0800030007000000) (hex 14 0x080022000700000006002C000000) 0x4059000000000000 21
     -- Unsatisfiable: no candidate in context 0, the largest cost in context 1
     ∷ refusal 0 (hex 4 0x04000100) 11
-    ∷ answered 1 (hex 4 0x04000100) (hex 22 0x0400200006002E000000040021000800320001000200) 0x7fefffffffffffff 14
+    ∷ answered 1 (hex 4 0x04000100) (hex 22 0x0400200006002E000000040021000800320001000200) 0x7fefffffffffffff 13
     -- Trivial: the chosen root is not safe
     ∷ refusal 0 (hex 4 0x04000200) 12
     -- And of a key and an age; of a key and a hash
@@ -82,7 +82,7 @@ desk = answered 0 (hex 32 0x0800030001000000080003000200000010000B0000000100FFFF
 -- an And in which its third search, of its right side without dissatisfaction, decides
 unfoldable pub third : List Line
 third = answered 1 (hex 44 0x080005000065CD1D080003000100000008000300080000000C000C00010002000200010008000A0003000000)
-    (hex 38 0x10003A0001000200080000000100000006002E000000080025000065CD1D0800320001000200) 0x4061e00000000000 158 ∷ []
+    (hex 38 0x10003A0001000200080000000100000006002E000000080025000065CD1D0800320001000200) 0x4061e00000000000 157 ∷ []
 
 unfoldable pub answers : List Line
 answers = few ++ (desk ++ third)

@@ -115,8 +115,8 @@ Cast = Candidate → Option Candidate
 abbrev pub castCheck : Cast
 castCheck x = typedAs (type.castCheck (x .ty)) (Check (x .tree)) (ext.castCheck (x .ext)) (cost.castCheck (x .cost))
 
-abbrev pub castDupif : Cast
-castDupif x = typedAs (type.castDupif (x .ty)) (DupIf (x .tree)) (ext.castDupif (x .ext)) (cost.castDupif (x .cost))
+abbrev pub castDupif : Context → Cast
+castDupif c x = typedAs (type.castDupif c (x .ty)) (DupIf (x .tree)) (ext.castDupif (x .ext)) (cost.castDupif (x .cost))
 
 abbrev pub castLikely : Cast
 castLikely x = typedAs (type.castLikely (x .ty)) (OrI False (x .tree)) (ext.castLikely (x .ext)) (cost.castLikely (x .cost))
@@ -144,14 +144,14 @@ castZeronotequal x =
     typedAs (type.castZeronotequal (x .ty)) (ZeroNotEqual (x .tree)) (ext.castZeronotequal (x .ext)) (cost.castZeronotequal (x .cost))
 
 -- the ten casts, in the order in which they are tried
-abbrev pub allCasts : List Cast
-allCasts =
-    castCheck ∷ castDupif ∷ castLikely ∷ castUnlikely ∷ castVerify
+abbrev pub allCasts : Context → List Cast
+allCasts c =
+    castCheck ∷ castDupif c ∷ castLikely ∷ castUnlikely ∷ castVerify
     ∷ castNonzero ∷ castTrue ∷ castSwap ∷ castAlt ∷ castZeronotequal ∷ []
 
 -- the cast of a number, 0 for the first; from 10 on there is none
-abbrev pub castNo : ℕ → Cast
-castNo n = getD allCasts n (λ x. none)
+abbrev pub castNo : Context → ℕ → Cast
+castNo c n = getD (allCasts c) n (λ x. none)
 
 -- ---- pairs, triples and thresholds
 

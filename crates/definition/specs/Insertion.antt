@@ -86,7 +86,7 @@ next (x ∷ q) nobody somebody = somebody x q
 unfoldable pub closure : Context → Probs → (pops : ℕ) → Queued → M Table
 closure c p zero w = next (w .queue) (pure (w .table)) λ x q. refuse FuelSpent
 closure c p (suc pops) w =
-    next (w .queue) (pure (w .table)) λ x q. castAll c p x allCasts (queued (w .table) q) >>= λ w. closure c p pops w
+    next (w .queue) (pure (w .table)) λ x q. castAll c p x (allCasts c) (queued (w .table) q) >>= λ w. closure c p pops w
 
 -- a candidate and all that casts make of it
 unfoldable pub insertClosure : Context → Probs → Candidate → Table → M Table

@@ -52,7 +52,7 @@ castsOf c p again (f ∷ fs) t = do
 -- a candidate with its closure, then each cast of what the search without dissatisfaction found
 unfoldable pub wrapped : Context → Probs → Again → Candidate → Table → M Table
 wrapped c p never x t = insertClosure c p x t
-wrapped c p (redo again) x t = insertClosure c p x t >>= λ t. castsOf c p again allCasts t
+wrapped c p (redo again) x t = insertClosure c p x t >>= λ t. castsOf c p again (allCasts c) t
 
 -- what was made of others is wrapped, unless it was passed over
 abbrev pub wrappedIfMade : Context → Probs → Again → Made → Table → M Table

@@ -115,7 +115,7 @@ closure-keeps {c} {p} (suc pops) {w} h = popped (h .queue) (λ w k. closure-keep
   where
     popped : {q : List Candidate} → All (Good c) q → ((w : Queued) → QueuedWell c p w → Keeps c (ProperAt c p) (closure c p pops w)) →
         Keeps c (ProperAt c p)
-        (next q (pure (w .table)) λ x q. castAll c p x allCasts (queued (w .table) q) >>= λ w. closure c p pops w)
+        (next q (pure (w .table)) λ x q. castAll c p x (allCasts c) (queued (w .table) q) >>= λ w. closure c p pops w)
     popped nobody r = pure-keeps (h .table)
     popped (g and gs) r = bind-keeps (castAll-keeps g (casts-good c) (record { table = h .table; queue = gs })) r
 

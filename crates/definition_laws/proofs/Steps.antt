@@ -166,7 +166,7 @@ module _ (c : Context) (p : Probs) where
   closure-spent t x q s = refl
 
   pub closure-pops : (pops : ℕ) (t : Table) (x : Candidate) (q : List Candidate) (s : State) →
-      closure c p (suc pops) (queued t (x ∷ q)) s ≡ then (castAll c p x allCasts (queued t q) s) (λ w. closure c p pops w)
+      closure c p (suc pops) (queued t (x ∷ q)) s ≡ then (castAll c p x (allCasts c) (queued t q) s) (λ w. closure c p pops w)
   unfolding closure
   closure-pops pops t x q s = refl
 
@@ -219,7 +219,7 @@ module _ (c : Context) (p : Probs) where
   wrapped-never x t s = refl
 
   pub wrapped-redo : (m : M Table) (x : Candidate) (t : Table) (s : State) →
-      wrapped c p (redo m) x t s ≡ then (insertClosure c p x t s) λ t. castsOf c p m allCasts t
+      wrapped c p (redo m) x t s ≡ then (insertClosure c p x t s) λ t. castsOf c p m (allCasts c) t
   unfolding wrapped
   wrapped-redo m x t s = refl
 

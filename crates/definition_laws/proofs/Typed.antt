@@ -164,9 +164,9 @@ module _ {c : Context} {x : Candidate} (g : Good c x) where
   unfolding typeOf figuresOf WellFormed
   check-good = typed-as _ _ _ _ (bind-ok type.castCheck (g .typed)) (ap ext.castCheck (g .figured)) (g .formed)
 
-  pub dupif-good : IfSome (Good c) (castDupif x)
+  pub dupif-good : IfSome (Good c) (castDupif c x)
   unfolding typeOf figuresOf WellFormed
-  dupif-good = typed-as _ _ _ _ (bind-ok type.castDupif (g .typed)) (ap ext.castDupif (g .figured)) (g .formed)
+  dupif-good = typed-as _ _ _ _ (bind-ok (type.castDupif c) (g .typed)) (ap ext.castDupif (g .figured)) (g .formed)
 
   pub likely-good : IfSome (Good c) (castLikely x)
   unfolding typeOf figuresOf WellFormed ext.castLikely
@@ -210,7 +210,7 @@ module _ {c : Context} {x : Candidate} (g : Good c x) where
 abbrev pub CastsWell : Context → Cast → Type 0
 CastsWell c f = (x : Candidate) → Good c x → IfSome (Good c) (f x)
 
-pub casts-good : (c : Context) → All (CastsWell c) allCasts
+pub casts-good : (c : Context) → All (CastsWell c) (allCasts c)
 casts-good c =
     (λ x g. check-good g) and (λ x g. dupif-good g) and (λ x g. likely-good g) and (λ x g. unlikely-good g) and (λ x g. verify-good g)
     and (λ x g. nonzero-good g) and (λ x g. true-cast-good g) and (λ x g. swap-good g) and (λ x g. alt-good g) and (λ x g. zeronotequal-good g)

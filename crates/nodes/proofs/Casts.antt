@@ -7,6 +7,7 @@ use mathlib.Core.Option.{Option, none, some}
 use Prim.Native.Nat.{ℕ, zero, suc, _<_}
 use lib.ListN.{drop}
 use lib.Seq.{drop-cons}
+use Rattle.contexts.specs.declared.Context.{Context}
 use Rattle.types.specs.declared.TypeResult.{TypeResult}
 use Rattle.types.specs.declared.TypeResult.the-variants as TypeResult
 use Rattle.figures.specs.declared.ExtData.{ExtData}
@@ -36,8 +37,8 @@ castSeen pol m IllTyped = none
 castSeen pol m Unknown = none
 
 -- each cast in turn
-pub casts-from : (n : ℕ) → n < 10 → drop n definition.allCasts ≡ castNo n ∷ drop (suc n) definition.allCasts
-casts-from n h = drop-cons definition.allCasts n (λ x. none) h
+pub casts-from : (c : Context) (n : ℕ) → n < 10 → drop n (definition.allCasts c) ≡ castNo c n ∷ drop (suc n) (definition.allCasts c)
+casts-from c n h = drop-cons (definition.allCasts c) n (λ x. none) h
 
 -- ---- what a cast stands for
 
@@ -64,21 +65,21 @@ module _ {m : List ℕ} (holds : Holds m) (pol : List ℕ) (e : ℕ) (l : e < no
   tree : Fragment
   tree = seen pol m e .tree
 
-  pub cast-seen : (n : ℕ) → castSeen pol m (castOf n (nodeAt m e) e) ≡ castNo n (seen pol m e)
+  pub cast-seen : (c : Context) (n : ℕ) → castSeen pol m (castOf c n (nodeAt m e) e) ≡ castNo c n (seen pol m e)
   unfolding castFrom treeOf find tree
-  cast-seen zero = of-row casts.check (Check tree) (λ t d c. refl)
-  cast-seen (suc zero) = of-row casts.dupif (DupIf tree) (λ t d c. refl)
-  cast-seen (suc (suc zero)) = of-row casts.likely (OrI False tree) (λ t d c. ap (λ (s : Candidate). OrI (s .tree) tree) (seen-false holds pol))
-  cast-seen (suc (suc (suc zero))) =
+  cast-seen c zero = of-row casts.check (Check tree) (λ t d c. refl)
+  cast-seen c (suc zero) = of-row (casts.dupif c) (DupIf tree) (λ t d c. refl)
+  cast-seen c (suc (suc zero)) = of-row casts.likely (OrI False tree) (λ t d c. ap (λ (s : Candidate). OrI (s .tree) tree) (seen-false holds pol))
+  cast-seen c (suc (suc (suc zero))) =
       of-row casts.unlikely (OrI tree False) (λ t d c. ap (λ (s : Candidate). OrI tree (s .tree)) (seen-false holds pol))
-  cast-seen (suc (suc (suc (suc zero)))) = of-row casts.verify (Verify tree) (λ t d c. refl)
-  cast-seen (suc (suc (suc (suc (suc zero))))) = of-row casts.nonzero (NonZero tree) (λ t d c. refl)
-  cast-seen (suc (suc (suc (suc (suc (suc zero)))))) =
+  cast-seen c (suc (suc (suc (suc zero)))) = of-row casts.verify (Verify tree) (λ t d c. refl)
+  cast-seen c (suc (suc (suc (suc (suc zero))))) = of-row casts.nonzero (NonZero tree) (λ t d c. refl)
+  cast-seen c (suc (suc (suc (suc (suc (suc zero)))))) =
       of-row casts.true′ (AndV tree True) (λ t d c. ap (λ (s : Candidate). AndV tree (s .tree)) (seen-true holds pol))
-  cast-seen (suc (suc (suc (suc (suc (suc (suc zero))))))) = of-row casts.swap (Swap tree) (λ t d c. refl)
-  cast-seen (suc (suc (suc (suc (suc (suc (suc (suc zero)))))))) = of-row casts.alt (Alt tree) (λ t d c. refl)
-  cast-seen (suc (suc (suc (suc (suc (suc (suc (suc (suc zero))))))))) = of-row casts.zeronotequal (ZeroNotEqual tree) (λ t d c. refl)
-  cast-seen (suc (suc (suc (suc (suc (suc (suc (suc (suc (suc n)))))))))) = refl
+  cast-seen c (suc (suc (suc (suc (suc (suc (suc zero))))))) = of-row casts.swap (Swap tree) (λ t d c. refl)
+  cast-seen c (suc (suc (suc (suc (suc (suc (suc (suc zero)))))))) = of-row casts.alt (Alt tree) (λ t d c. refl)
+  cast-seen c (suc (suc (suc (suc (suc (suc (suc (suc (suc zero))))))))) = of-row casts.zeronotequal (ZeroNotEqual tree) (λ t d c. refl)
+  cast-seen c (suc (suc (suc (suc (suc (suc (suc (suc (suc (suc n)))))))))) = refl
 
 -- ---- a cast may be offered
 
@@ -100,7 +101,8 @@ plain-from (r ∷ rows) p zero x e m =
     ap plainKind (sym k) ∙ both-true (plainKind (r .kind)) (allPlain rows) p .0
 plain-from (r ∷ rows) p (suc n) x e m = plain-from rows (both-true (plainKind (r .kind)) (allPlain rows) p .1) n x e m
 
-pub cast-fresh : {m : List ℕ} → Holds m → {e : ℕ} → e < nodeCount m → (n : ℕ) {y : code.Candidate} → castOf n (nodeAt m e) e ≡ Cast y → Offerable m y
+pub cast-fresh : {m : List ℕ} → Holds m → {e : ℕ} → e < nodeCount m → (c : Context) (n : ℕ) {y : code.Candidate}
+    → castOf c n (nodeAt m e) e ≡ Cast y → Offerable m y
 unfolding allPlain
-cast-fresh {m} holds {e} l n is =
-    made-offers e l (cast-kept (nodeAt m e) (holds .nodes e l .entered) e n is) (plain-from casts.allCasts refl n (nodeAt m e) e is)
+cast-fresh {m} holds {e} l c n is =
+    made-offers e l (cast-kept (nodeAt m e) (holds .nodes e l .entered) e c n is) (plain-from (casts.allCasts c) refl n (nodeAt m e) e is)

@@ -29,11 +29,11 @@ use Rattle.offers.specs.Offering.{InsertedCast}
 
 module _ (c : Context) (p : Probs) {m₀ : List ℕ} (holds : Holds m₀) {e : ℕ} (l : e < nodeCount m₀) (number : ℕ) where
   -- the definition's cast is what the code's stands for
-  cast-is : {r : CastResult} → castOf number (nodeAt m₀ e) e ≡ r → (pol : List ℕ) → castNo number (seen pol m₀ e) ≡ castSeen pol m₀ r
-  cast-is is pol = sym (cast-seen holds pol e l number) ∙ ap (castSeen pol m₀) is
+  cast-is : {r : CastResult} → castOf c number (nodeAt m₀ e) e ≡ r → (pol : List ℕ) → castNo c number (seen pol m₀ e) ≡ castSeen pol m₀ r
+  cast-is is pol = sym (cast-seen holds pol e l c number) ∙ ap (castSeen pol m₀) is
 
   -- no candidate
-  pub nothing-inserted : {r : CastResult} → castOf number (nodeAt m₀ e) e ≡ r → ((pol : List ℕ) → castSeen pol m₀ r ≡ none) →
+  pub nothing-inserted : {r : CastResult} → castOf c number (nodeAt m₀ e) e ≡ r → ((pol : List ℕ) → castSeen pol m₀ r ≡ none) →
       {t : Table} → TableHolds m₀ t → InsertedCast c p e number t (closed t Done) m₀ m₀
   nothing-inserted is nothing {t} table =
       record {
@@ -46,7 +46,7 @@ module _ (c : Context) (p : Probs) {m₀ : List ℕ} (holds : Holds m₀) {e : �
       }
 
   -- a candidate, with its closure
-  pub cast-inserted : {y : code.Candidate} → castOf number (nodeAt m₀ e) e ≡ Cast y → {t : Table} {r : Closed} {m : List ℕ} →
+  pub cast-inserted : {y : code.Candidate} → castOf c number (nodeAt m₀ e) e ≡ Cast y → {t : Table} {r : Closed} {m : List ℕ} →
       Closes c p y t r m₀ m → InsertedCast c p e number t r m₀ m
   cast-inserted {y} is {t} closes =
       record {

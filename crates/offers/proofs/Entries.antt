@@ -82,7 +82,7 @@ module _ {m₀ m : List ℕ} {s : ℕ} (ready : SlotReady m₀ s) (x : Extends m
 -- ---- the casts
 
 abbrev casting : Context → Probs → (number : ℕ) → Candidate → definition.Table → M definition.Table
-casting c p number x = insertedIfTyped c p (castNo number x)
+casting c p number x = insertedIfTyped c p (castNo c number x)
 
 -- the casts of the entries after entry j
 abbrev after : Context → Probs → (s number : ℕ) → (pol m : List ℕ) → (j : ℕ) → definition.Table → M definition.Table
@@ -91,8 +91,8 @@ after c p s number pol m j t = forEach (casting c p number) (drop (suc j) (slotT
 -- before entry j, in memory m, with the table t
 pub record Entries (c : Context) (p : Probs) (s number : ℕ) (t₀ : Table) (m₀ : List ℕ) (j : ℕ) (t : Table) (m : List ℕ) : Type 0 where
   pub says : (pol : List ℕ) (ts : List Stored) →
-      forEach (λ x. insertedIfTyped c p (castNo number x)) (drop j (slotTable pol m₀ s)) (seenTable pol m t) (stateOf m ts)
-      ≡ forEach (λ x. insertedIfTyped c p (castNo number x)) (slotTable pol m₀ s) (seenTable pol m₀ t₀) (stateOf m₀ ts)
+      forEach (λ x. insertedIfTyped c p (castNo c number x)) (drop j (slotTable pol m₀ s)) (seenTable pol m t) (stateOf m ts)
+      ≡ forEach (λ x. insertedIfTyped c p (castNo c number x)) (slotTable pol m₀ s) (seenTable pol m₀ t₀) (stateOf m₀ ts)
   pub extends : Extends m₀ m
   pub table : TableHolds m t
 

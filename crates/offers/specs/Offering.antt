@@ -51,7 +51,7 @@ pub record LeafOf (kind number r : ℕ) (x : node.Candidate) : Type 0 where
 
 pub record InsertedCast (c : Context) (p : Probs) (e number : ℕ) (t : code-table.Table) (r : Closed) (m₀ m : List ℕ) : Type 0 where
   pub says : (pol : List ℕ) (ts : List Stored) →
-      insertedIfTyped c p (castNo number (seen pol m₀ e)) (seenTable pol m₀ t) (stateOf m₀ ts)
+      insertedIfTyped c p (castNo c number (seen pol m₀ e)) (seenTable pol m₀ t) (stateOf m₀ ts)
       ≡ answer (r .end) (seenTable pol m (r .table)) (stateOf m ts)
   pub extends : Extends m₀ m
   pub table : TableHolds m (r .table)
@@ -64,7 +64,7 @@ pub record SlotReady (m : List ℕ) (s : ℕ) : Type 0 where
 
 pub record InsertedCasts (c : Context) (p : Probs) (s number : ℕ) (t : code-table.Table) (r : Closed) (m₀ m : List ℕ) : Type 0 where
   pub says : (pol : List ℕ) (ts : List Stored) →
-      forEach (λ x. insertedIfTyped c p (castNo number x)) (slotTable pol m₀ s) (seenTable pol m₀ t) (stateOf m₀ ts)
+      forEach (λ x. insertedIfTyped c p (castNo c number x)) (slotTable pol m₀ s) (seenTable pol m₀ t) (stateOf m₀ ts)
       ≡ answer (r .end) (seenTable pol m (r .table)) (stateOf m ts)
   pub extends : Extends m₀ m
   pub table : TableHolds m (r .table)

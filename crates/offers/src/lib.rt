@@ -60,7 +60,7 @@ pub fn insert_cast(
     ensures { λ o. ⌜ InsertedCast context (probs sat dissat) e number t o (now (work .entry)) (now (work .exit)) ⌝ }
 {
     let x = nodes::node(work, e);
-    match x.cast(e, number) {
+    match x.cast(context, e, number) {
         CastResult::Cast(y) => closure::insert_closure(context, work, sat, dissat, y, t),
         CastResult::IllTyped => Closed {
             table: t,

@@ -362,7 +362,7 @@ module _ (c : Context) (t : Tables) where
     sized (Alt x) w h = one c t x (Alt x) rule.castAlt (sized x w h) (alt-sized c t x)
     sized (Swap x) w h = one c t x (Swap x) rule.castSwap (sized x w h) (swap-sized c t x)
     sized (Check x) w h = one c t x (Check x) rule.castCheck (sized x w h) (check-sized c t x)
-    sized (DupIf x) w h = one c t x (DupIf x) rule.castDupif (sized x w h) (dupIf-sized c t x)
+    sized (DupIf x) w h = one c t x (DupIf x) (rule.castDupif c) (sized x w h) (dupIf-sized c t x)
     sized (Verify x) w h = one c t x (Verify x) rule.castVerify (sized x w h) (verify-sized c t x)
     sized (NonZero x) w h = one c t x (NonZero x) rule.castNonzero (sized x w h) (nonZero-sized c t x)
     sized (ZeroNotEqual x) w h = one c t x (ZeroNotEqual x) rule.castZeronotequal (sized x w h) (zeroNotEqual-sized c t x)

@@ -70,7 +70,7 @@ module _ (c : Context) (o : Outcomes) where
     sound (Alt x) = one o (typeOf c x) rule.castAlt (meaning c o x) _ (sound x) λ t. alt-good c o t (meaning c o x)
     sound (Swap x) = one o (typeOf c x) rule.castSwap (meaning c o x) _ (sound x) λ t. swap-good c o t (meaning c o x)
     sound (Check x) = one o (typeOf c x) rule.castCheck (meaning c o x) _ (sound x) λ t. check-good c o t (meaning c o x)
-    sound (DupIf x) = one o (typeOf c x) rule.castDupif (meaning c o x) _ (sound x) λ t. dupIf-good c o t (meaning c o x)
+    sound (DupIf x) = one o (typeOf c x) (rule.castDupif c) (meaning c o x) _ (sound x) λ t. dupIf-good c o t (meaning c o x)
     sound (Verify x) = one o (typeOf c x) rule.castVerify (meaning c o x) _ (sound x) λ t. verify-good c o t (meaning c o x)
     sound (NonZero x) = one o (typeOf c x) rule.castNonzero (meaning c o x) _ (sound x) λ t. nonZero-good c o t (meaning c o x)
     sound (ZeroNotEqual x) = one o (typeOf c x) rule.castZeronotequal (meaning c o x) _ (sound x) λ t. zeroNotEqual-good c o t (meaning c o x)

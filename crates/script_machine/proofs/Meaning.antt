@@ -13,7 +13,7 @@ use Rattle.script_machine.specs.Numbers.{isTrue}
 use Rattle.script_machine.specs.Words.{Word, <n>, <key>, <keyhash>, <h>, DUP, IFDUP, SWAP, SIZE, TOALTSTACK, FROMALTSTACK, VERIFY, HASH}
 use Rattle.script_machine.specs.Words.{CHECKLOCKTIMEVERIFY, CHECKSEQUENCEVERIFY, 0NOTEQUAL, BOOLAND, BOOLOR, ADD, IF, NOTIF}
 use Rattle.script_machine.specs.Words.{EQUAL, NUMEQUAL, CHECKSIG, CHECKMULTISIG, CHECKSIGADD, EQUALVERIFY}
-use Rattle.script_machine.specs.Machine.{Outcomes, Action, _then_, effect}
+use Rattle.script_machine.specs.Machine.{Outcomes, Action, _then_, mayBranch, effect}
 use Rattle.script_machine.specs.Translation.{⟦_⟧, andVerify, sum, adds, sigSum, sigAdds}
 use Rattle.script_machine.proofs.Nested.{Means, nothing, doing, branch, no-word, word, _⨾_, opt, alt}
 
@@ -28,10 +28,10 @@ module _ (c : Context) (o : Outcomes) where
 
   -- NOTIF takes a false element for true
   abbrev pub if : Action → Action → Action
-  if g h = branch isTrue g h
+  if g h = branch (mayBranch c) isTrue g h
 
   abbrev pub ifNot : Action → Action → Action
-  ifNot g h = branch (λ x. not (isTrue x)) g h
+  ifNot g h = branch (mayBranch c) (λ x. not (isTrue x)) g h
 
   abbrev pub keysPushed : List ℕ → Action
   keysPushed [] = nothing

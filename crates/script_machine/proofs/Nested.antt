@@ -5,7 +5,8 @@ use mathlib.Core.Path.{_≡_, refl, sym}
 use Rattle.contexts.specs.declared.Context.{Context}
 use Rattle.script_machine.specs.Numbers.{Bytes, Stack}
 use Rattle.script_machine.specs.Words.{Word, ELSE, ENDIF}
-use Rattle.script_machine.specs.Machine.{Outcomes, Result, abort, done, Action, pop, andThen, _then_, Effect, works, opens, turns, closes, effect}
+use Rattle.script_machine.specs.Machine.{Outcomes, Result, abort, done, Action, ok, pop, andThen, _then_}
+use Rattle.script_machine.specs.Machine.{Effect, works, opens, turns, closes, effect}
 use Rattle.script_machine.specs.Machine.{State, aborted, state, allTrue, under, step, run}
 
 -- no word, the action of a word that works on the stacks, and a condition by the top element
@@ -14,12 +15,12 @@ nothing m a = done m a
 
 abbrev pub doing : Effect → Action
 doing (works g) = g
-doing (opens holds) = nothing
+doing (opens may holds) = nothing
 doing turns = nothing
 doing closes = nothing
 
-abbrev pub branch : (Bytes → Bool) → Action → Action → Action
-branch holds g h m a = pop m λ x m. cond (holds x) (g m a) (h m a)
+abbrev pub branch : (may holds : Bytes → Bool) → Action → Action → Action
+branch may holds g h m a = pop m λ x m. ok (may x) (cond (holds x) (g m a) (h m a))
 
 module _ (c : Context) (o : Outcomes) where
   -- ws does g under conditions that are all true, and nothing under any other
@@ -56,6 +57,13 @@ module _ (c : Context) (o : Outcomes) where
   ended b cs abort = refl
   ended b cs (done m a) = refl
 
+  -- what follows a condition that an element may or may not open
+  taken : (ws : List Word) (b : Bool) (s : State) (cs : List Bool) (r : Result) → run c o ws s ≡ under cs r
+      → run c o ws (cond b s aborted) ≡ under cs (ok b r)
+  unfolding ok
+  taken ws true s cs r e = e
+  taken ws false s cs r e = run-aborted ws
+
 -- Scripts put together from their parts.
 module _ {c : Context} {o : Outcomes} where
   pub no-word : Means c o [] nothing
@@ -86,15 +94,16 @@ module _ {c : Context} {o : Outcomes} where
   opt-taken {xs} {g} p m a cs t true = rw (run-append, p .live m a (true ∷ cs) t) (ended c o true cs (g m a))
   opt-taken {xs} {g} p m a cs t false = rw (run-append, p .skipped m a (false ∷ cs) refl, run-one)
 
-  opt-live : (w : Word) {holds : Bytes → Bool} {xs : List Word} {g : Action} → effect c o w ≡ opens holds → Means c o xs g
+  opt-live : (w : Word) {may holds : Bytes → Bool} {xs : List Word} {g : Action} → effect c o w ≡ opens may holds → Means c o xs g
       → (m a : Stack) (cs : List Bool) → allTrue cs ≡ true
-      → run c o (w ∷ (xs ++ ENDIF ∷ [])) (state m a cs) ≡ under cs (branch holds g nothing m a)
+      → run c o (w ∷ (xs ++ ENDIF ∷ [])) (state m a cs) ≡ under cs (branch may holds g nothing m a)
   unfolding step
   opt-live w e p [] a cs t = rw (run-cons, e, t, run-aborted)
-  opt-live w {holds} e p (x ∷ m) a cs t = rw (run-cons, e, t) (opt-taken p m a cs t (holds x))
+  opt-live w {may} {holds} {xs} e p (x ∷ m) a cs t =
+      rw (run-cons, e, t) (taken c o (xs ++ ENDIF ∷ []) (may x) (state m a (holds x ∷ cs)) cs _ (opt-taken p m a cs t (holds x)))
 
-  pub opt : (w : Word) {holds : Bytes → Bool} {xs : List Word} {g : Action} → effect c o w ≡ opens holds → Means c o xs g
-      → Means c o (w ∷ (xs ++ ENDIF ∷ [])) (branch holds g nothing)
+  pub opt : (w : Word) {may holds : Bytes → Bool} {xs : List Word} {g : Action} → effect c o w ≡ opens may holds → Means c o xs g
+      → Means c o (w ∷ (xs ++ ENDIF ∷ [])) (branch may holds g nothing)
   unfolding step
   opt w e p =
       record {
@@ -117,15 +126,16 @@ module _ {c : Context} {o : Outcomes} where
   alt-taken {h = h} p q m a cs t false =
       rw (run-append, p .skipped m a (false ∷ cs) refl, run-cons, run-append, q .live m a (true ∷ cs) t) (ended c o true cs (h m a))
 
-  alt-live : (w : Word) {holds : Bytes → Bool} {xs ys : List Word} {g h : Action} → effect c o w ≡ opens holds
+  alt-live : (w : Word) {may holds : Bytes → Bool} {xs ys : List Word} {g h : Action} → effect c o w ≡ opens may holds
       → Means c o xs g → Means c o ys h → (m a : Stack) (cs : List Bool) → allTrue cs ≡ true
-      → run c o (w ∷ (xs ++ ELSE ∷ (ys ++ ENDIF ∷ []))) (state m a cs) ≡ under cs (branch holds g h m a)
+      → run c o (w ∷ (xs ++ ELSE ∷ (ys ++ ENDIF ∷ []))) (state m a cs) ≡ under cs (branch may holds g h m a)
   unfolding step
   alt-live w e p q [] a cs t = rw (run-cons, e, t, run-aborted)
-  alt-live w {holds} e p q (x ∷ m) a cs t = rw (run-cons, e, t) (alt-taken p q m a cs t (holds x))
+  alt-live w {may} {holds} {xs} {ys} e p q (x ∷ m) a cs t =
+      rw (run-cons, e, t) (taken c o (xs ++ ELSE ∷ (ys ++ ENDIF ∷ [])) (may x) (state m a (holds x ∷ cs)) cs _ (alt-taken p q m a cs t (holds x)))
 
-  pub alt : (w : Word) {holds : Bytes → Bool} {xs ys : List Word} {g h : Action} → effect c o w ≡ opens holds
-      → Means c o xs g → Means c o ys h → Means c o (w ∷ (xs ++ ELSE ∷ (ys ++ ENDIF ∷ []))) (branch holds g h)
+  pub alt : (w : Word) {may holds : Bytes → Bool} {xs ys : List Word} {g h : Action} → effect c o w ≡ opens may holds
+      → Means c o xs g → Means c o ys h → Means c o (w ∷ (xs ++ ELSE ∷ (ys ++ ENDIF ∷ []))) (branch may holds g h)
   unfolding step
   alt w e p q =
       record {

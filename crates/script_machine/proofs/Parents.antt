@@ -1,10 +1,11 @@
 -- The fragments with children, but for Thresh, do what their types say, where their children do.
 use Prim.Native.Nat.{ℕ, _+_}
 use native.Mathlib.Omega.{arith}
-use mathlib.Core.Bool.{Bool, true, false, not, _&&_, _||_}
+use mathlib.Core.Bool.{Bool, true, false, not, _&&_, _||_, false≢true}
 use mathlib.Core.List.{[], _∷_, _++_, append-nil}
-use mathlib.Core.Logic.{inl}
-use mathlib.Core.Path.{_≡_, refl, sym}
+use mathlib.Core.Logic.{_⊎_, inl, inr}
+use mathlib.Core.Path.{_≡_, refl, sym, ap}
+use lib.Dec.{eqb, eqb→eq}
 use lib.IntN.{ℤ, pos}
 use lib.ListN.{length, length-append}
 use Rattle.correctness.specs.declared.Base.{Base}
@@ -14,17 +15,18 @@ use Rattle.correctness.specs.declared.Input.the-variants.{Any, OneNonZero}
 use Rattle.correctness.specs.declared.Correctness.{Correctness}
 use Rattle.types.specs.declared.«Type».{«Type»}
 use Rattle.correctness.specs.Letters.{isB, isK, isV, isW, baseEq, isZero, isOne, isNonZero}
-use Rattle.correctness.specs.CorrectnessRules.{isBdu, sameBKV, orDInput, orIInput, andOrInput}
+use Rattle.correctness.specs.CorrectnessRules.{dupifUnit, isBdu, sameBKV, orDInput, orIInput, andOrInput}
 use Rattle.types.specs.TypeRules as rule
 use Rattle.contexts.specs.declared.Context.{Context}
-use Rattle.script_machine.specs.Numbers.{Bytes, Stack, isTrue, element, write, read, nonzero}
+use Rattle.contexts.specs.declared.Context.the-variants.{Segwitv0, Tap}
+use Rattle.script_machine.specs.Numbers.{Bytes, Stack, isTrue, element, same, write, read, nonzero}
 use Rattle.script_machine.specs.Words.{Word, DUP, IFDUP, SWAP, SIZE, TOALTSTACK, FROMALTSTACK, VERIFY, 0NOTEQUAL, BOOLAND, BOOLOR, CHECKSIG}
-use Rattle.script_machine.specs.Machine.{Outcomes, done, Action, takesNumbers, _then_}
+use Rattle.script_machine.specs.Machine.{Outcomes, done, Action, ok, takesNumbers, _then_, mayBranch}
 use Rattle.script_machine.proofs.Nested.{nothing}
 use Rattle.script_machine.proofs.Meaning as Meaning
 use Rattle.script_machine.proofs.Meaning.{if, ifNot}
 use Rattle.script_machine.proofs.Outcome.{Out, dead, does, ret, split, ok-out, ok-then, cond-out, weaken, same-out, top-in}
-use Rattle.script_machine.proofs.Round.{size-none}
+use Rattle.script_machine.proofs.Round.{size-none, T-of}
 use Rattle.script_machine.proofs.Sizes.{Size, ones, ones-le, zero-size, one-size, nonzero-size, nonzero-one, check-size, size-eq, both}
 use Rattle.script_machine.proofs.Sizes.{and-size, orB-size, orD-size, orI-size, andOr-size}
 use Rattle.script_machine.proofs.Sound.{Unit?, any, Kept, above, below, PostW, post-W, Top, tB, tV, tK, Post, post, tested}
@@ -35,6 +37,17 @@ bdu : (x : Correctness) → isBdu x ≡ true → (isB (x .base) ≡ true) × (x 
 bdu x e =
     let f = both (isB (x .base)) (x .dissatisfiable && x .unit) e in
     (f .0, both (x .dissatisfiable) (x .unit) (f .1) .1)
+
+-- what IF takes in Tapscript, where DupIf is u
+tap-unit : (x : Bytes) → mayBranch Tap x ≡ true → (x ≡ []) ⊎ (x ≡ 1 ∷ [])
+unfolding same
+tap-unit [] e = inl refl
+tap-unit (b ∷ []) e = inr (ap (λ (n : ℕ). n ∷ []) (eqb→eq b 1 (T-of (both (eqb b 1) true e .0))))
+tap-unit (b ∷ c ∷ bs) e = absurd (false≢true (both (eqb b 1) false e .1))
+
+may-unit : (c : Context) (x : Bytes) → mayBranch c x ≡ true → Unit? (dupifUnit c) x
+may-unit Segwitv0 x e = any
+may-unit Tap x e = λ _. tap-unit x e
 
 module _ (c : Context) (o : Outcomes) where
   infix 90 !_
@@ -81,23 +94,23 @@ module _ (c : Context) (o : Outcomes) where
       ret (_ ∷ []) (tested _ (size-eq 1 (t .corr .input) (sym (length-append xs (x ∷ []))) (check-size (t .corr .input) (length xs) l)))
       (λ r a. refl) r
 
-  -- DupIf: its child takes none
-  none-gone : {g : Action} {i : Input} {u : Bool} {x : Bytes} {r : Stack} → ((n : ℕ) → Size 1 i n → n ≡ 0) → Out g (Post o «V» i u) (x ∷ r)
-      → Out (λ r a. g (x ∷ r) a) (λ zs ws. Post o B OneNonZero false (x ∷ zs) ws) r
-  none-gone k (dead e) = dead e
-  none-gone {g} {i} {u} {x} {r} k (does xs ys t e q f) = go xs ys (k (length xs) q.size) q.top f
+  -- DupIf: its child takes none, and the element that IF takes stays
+  none-gone : {g : Action} {i : Input} {u v : Bool} {x : Bytes} {r : Stack} → ((n : ℕ) → Size 1 i n → n ≡ 0) → Unit? v x
+      → Out g (Post o «V» i u) (x ∷ r) → Out (λ r a. g (x ∷ r) a) (λ zs ws. Post o B OneNonZero v (x ∷ zs) ws) r
+  none-gone k w (dead e) = dead e
+  none-gone {g} {i} {u} {v} {x} {r} k w (does xs ys t e q f) = go xs ys (k (length xs) q.size) q.top f
     where
       go : (xs ys : Stack) → length xs ≡ 0 → Top o u «V» ys → ((r a : Stack) → g (xs ++ r) a ≡ done (ys ++ r) a)
-          → Out (λ r a. g (x ∷ r) a) (λ zs ws. Post o B OneNonZero false (x ∷ zs) ws) r
+          → Out (λ r a. g (x ∷ r) a) (λ zs ws. Post o B OneNonZero v (x ∷ zs) ws) r
       go (c ∷ xs) ys l t f = absurd (omega arith)
-      go [] ys l tV f = ret (x ∷ []) (post refl (tB x any)) (λ r a. f (x ∷ r) a) r
+      go [] ys l tV f = ret (x ∷ []) (post refl (tB x w)) (λ r a. f (x ∷ r) a) r
 
-  pub dupIf-good : (t : «Type») (g : Action) → Sound o (t .corr) g → Good o (rule.castDupif t) (! DUP then if c o g nothing)
+  pub dupIf-good : (t : «Type») (g : Action) → Sound o (t .corr) g → Good o (rule.castDupif c t) (! DUP then if c o g nothing)
   dupIf-good t g h = okIf-good o (isV (t .corr .base) && isZero (t .corr .input)) _ _ _ λ e.
       let f = both (isV (t .corr .base)) (isZero (t .corr .input)) e in
-      split (λ a. refl) λ x r. cond-out (isTrue x)
-      (λ _. none-gone (λ n l. zero-size 1 (t .corr .input) n f.1 l .0) (at-base o «V» (t .corr) g f.0 h (x ∷ r)))
-      (λ _. ret (x ∷ []) (post refl (tB x any)) (λ r a. refl) r)
+      split (λ a. refl) λ x r. ok-out (mayBranch c x) λ may. cond-out (isTrue x)
+      (λ _. none-gone (λ n l. zero-size 1 (t .corr .input) n f.1 l .0) (may-unit c x may) (at-base o «V» (t .corr) g f.0 h (x ∷ r)))
+      (λ _. ret (x ∷ []) (post refl (tB x (may-unit c x may))) (λ r a. refl) r)
 
   pub verify-good : (t : «Type») (g : Action) → Sound o (t .corr) g → Good o (rule.castVerify t) (g then ! VERIFY)
   verify-good t g h = okIf-good o (isB (t .corr .base)) _ _ _ λ e s.
@@ -108,7 +121,7 @@ module _ (c : Context) (o : Outcomes) where
       → Good o (rule.castNonzero t) (! SIZE then ! 0NOTEQUAL then if c o g nothing)
   nonZero-good t g h = okIf-good o (isNonZero (t .corr .input) && isB (t .corr .base)) _ _ _ λ e.
       let f = both (isNonZero (t .corr .input)) (isB (t .corr .base)) e in
-      split (λ a. refl) λ x r. ok-then _ (if c o g nothing) _ λ _.
+      split (λ a. refl) λ x r. ok-then _ (if c o g nothing) _ λ _. ok-out _ λ _.
       cond-out (isTrue (element (nonzero (read (write (pos (length x)))))))
       (λ _. top-in (at-base o B (t .corr) g f.1 h (x ∷ r)) λ xs ys w. nonzero-size 1 (t .corr .input) (length xs) f.0 w.size)
       (λ k. ret (x ∷ []) (post (nonzero-one (t .corr .input) f.0) (tB x (λ _. inl (size-none x k)))) (λ r a. refl) r)
@@ -158,7 +171,7 @@ module _ (c : Context) (o : Outcomes) where
   orC-good s t g h p q =
       okIf-good o (isBdu (s .corr) && isV (t .corr .base)) _ _ _ λ e m.
       let f = both (isBdu (s .corr)) (isV (t .corr .base)) e in
-      seq-B _ (at-base o B (s .corr) g (bdu (s .corr) f.0 .0) p m) λ xs y l v r. cond-out (not (isTrue y))
+      seq-B _ (at-base o B (s .corr) g (bdu (s .corr) f.0 .0) p m) λ xs y l v r. ok-out (mayBranch c y) λ _. cond-out (not (isTrue y))
       (λ _. weaken (at-base o «V» (t .corr) h f.1 q r) λ zs ws w.
       post (orD-size (s .corr .input) (t .corr .input) (length xs) (length (xs ++ zs)) l (orD-total (t .corr .input) xs zs w.size)) (no-unit w.top))
       (λ _. ret [] (post (rw append-nil (orD-size (s .corr .input) (t .corr .input) (length xs) (length xs) l λ e. refl)) tV) (λ r a. refl) r)
@@ -188,9 +201,10 @@ module _ (c : Context) (o : Outcomes) where
       → Unit? true y → (r : Stack) (b : Bool) → isTrue y ≡ b
       → Out (λ r a. (! IFDUP then ifNot c o h nothing) (y ∷ r) a) (λ zs ws. Post o B (orDInput i j) v (xs ++ zs) ws) r
   orD-out i j v h q xs y l w r true t =
-      ret (y ∷ []) (post (rw append-nil (orD-size i j (length xs) (length xs) l λ e. refl)) (tB y (λ e. w refl))) (λ r a. rw (t, t)) r
+      same-out {h = λ s a. ok (mayBranch c y) (done (y ∷ s) a)} (λ s a. rw (t, t)) (ok-out (mayBranch c y) λ _.
+      ret (y ∷ []) (post (rw append-nil (orD-size i j (length xs) (length xs) l λ e. refl)) (tB y (λ e. w refl))) (λ r a. refl) r)
   orD-out i j v h q xs y l w r false t =
-      same-out (λ s a. rw (t, t)) (weaken (q r) λ zs ws w.
+      same-out {h = λ s a. ok (mayBranch c y) (h s a)} (λ s a. rw (t, t)) (ok-out (mayBranch c y) λ _. weaken (q r) λ zs ws w.
       post (orD-size i j (length xs) (length (xs ++ zs)) l (orD-total j xs zs w.size)) w.top)
 
   pub orD-good : (s t : «Type») (g h : Action) → Sound o (s .corr) g → Sound o (t .corr) h
@@ -210,7 +224,7 @@ module _ (c : Context) (o : Outcomes) where
       (runs-at o (s .corr .base) h f.1 (same-base o (s .corr .base) (t .corr) h f.0 q)))
     where
       out : (b : Base) (i j : Input) (u v : Bool) → Runs o b i u g → Runs o b j v h → Runs o b (orIInput i j) (u && v) (if c o g h)
-      out b i j u v p q = split (λ a. refl) λ x r. cond-out (isTrue x)
+      out b i j u v p q = split (λ a. refl) λ x r. ok-out (mayBranch c x) λ _. cond-out (isTrue x)
           (λ _. weaken (p r) λ zs ws w. post (orI-size (ones b) i j i (length zs) w.size λ e. both (isZero i) (isZero j) e .0) (top-left u v w.top))
           (λ _. weaken (q r) λ zs ws w. post (orI-size (ones b) i j j (length zs) w.size λ e. both (isZero i) (isZero j) e .1) (top-right u v w.top))
 
@@ -227,7 +241,7 @@ module _ (c : Context) (o : Outcomes) where
     where
       out : (b : Base) (i j l : Input) {u : Bool} (v x : Bool) → Runs o B i u g → Runs o b j v h → Runs o b l x k
           → Runs o b (andOrInput i j l) (v && x) (g then ifNot c o k h)
-      out b i j l v x p q r m = seq-B _ (p m) λ xs y n _ m. cond-out (not (isTrue y))
+      out b i j l v x p q r m = seq-B _ (p m) λ xs y n _ m. ok-out (mayBranch c y) λ _. cond-out (not (isTrue y))
           (λ _. weaken (r m) λ zs ws t. post (rw length-append (andOr-size (ones b) i j l l (length xs) (length zs) n t.size
           (λ e. both (isZero j) (isZero l) e .1) (λ e. both (isOne j) (isOne l) e .1))) (top-right v x t.top))
           (λ _. weaken (q m) λ zs ws t. post (rw length-append (andOr-size (ones b) i j l j (length xs) (length zs) n t.size

@@ -2,6 +2,7 @@
 use mathlib.Core.Path.{refl}
 use Rattle.contexts.specs.Lists.{all, sum}
 use Rattle.contexts.specs.declared.Context.{Context}
+use Rattle.contexts.specs.declared.Context.the-variants.{Segwitv0, Tap}
 use Rattle.trees.specs.Typing.{typeOf, typesOf}
 use Rattle.script_machine.specs.Numbers.{isTrue, element, same, read, magnitude, negative, write, digits, signed, nonzero, equal}
 use Rattle.script_machine.specs.Machine.{ok, step, run}
@@ -12,9 +13,11 @@ use Rattle.script_machine.specs.WorkedRuns.{signs, allSign, sameStack, a
 pub worked-runs : WorkedRuns
 unfolding run step script ⟦_⟧ Translation.sum adds ok isTrue element same read magnitude negative write digits signed nonzero equal signs allSign
     sameStack allHold
-worked-runs c = refl
+worked-runs Segwitv0 = refl
+worked-runs Tap = refl
 
 pub counterexamples : (c : Context) → Counterexamples c
 unfolding run step script ⟦_⟧ Translation.sum adds ok isTrue element same read magnitude negative write digits signed nonzero equal signs allSign
     typeOf typesOf all sum
-counterexamples c = record { nonZeroOverZ = refl; leavesOne = refl; leavesTwo = refl; threshOverB = refl; bothSigned = refl }
+counterexamples Segwitv0 = record { nonZeroOverZ = refl; leavesOne = refl; leavesTwo = refl; threshOverB = refl; bothSigned = refl }
+counterexamples Tap = record { nonZeroOverZ = refl; leavesOne = refl; leavesTwo = refl; threshOverB = refl; bothSigned = refl }

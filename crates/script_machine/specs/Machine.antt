@@ -1,4 +1,5 @@
--- The limit-free machine, written from document 01, "What a fragment's script does": what each word does, and a run word by word.
+-- The limit-free machine, written from document 01, "What a fragment's script does", and document 02, R-5: what each word does, and a run
+-- word by word.
 use Prim.Native.Nat.{ℕ, zero, suc}
 use mathlib.Core.Bool.{Bool, true, false, not, _&&_, _||_, cond}
 use mathlib.Core.List.{List, [], _∷_, _++_}
@@ -7,6 +8,7 @@ use lib.IntN.{ℤ, pos, negsuc, _+ℤ_}
 use lib.ListN.{length}
 use Rattle.contexts.specs.Leaves.{LockKind, After, Older, HashKind}
 use Rattle.contexts.specs.declared.Context.{Context}
+use Rattle.contexts.specs.declared.Context.the-variants.{Segwitv0, Tap}
 use Rattle.script_machine.specs.Numbers.{Bytes, Stack, isTrue, element, same, read, write, nonzero, equal}
 use Rattle.script_machine.specs.Words.{Word, <n>, <key>, <keyhash>, <h>, DUP, IFDUP, SWAP, SIZE, TOALTSTACK, FROMALTSTACK, VERIFY, HASH}
 use Rattle.script_machine.specs.Words.{CHECKLOCKTIMEVERIFY, CHECKSEQUENCEVERIFY, 0NOTEQUAL, BOOLAND, BOOLOR, ADD, IF, NOTIF, ELSE, ENDIF}
@@ -118,10 +120,16 @@ oneMore false i = i
 abbrev pub checkSigAdd : (Bytes → Bytes → Bool) → Action
 checkSigAdd signs m a = pop m λ key m. pop m λ x m. pop m λ sig m. number x λ i. done (write (oneMore (signs key sig) i) ∷ m) a
 
--- What a word is to the machine: it works on the stacks, opens a condition by the element that it takes, turns it or closes it.
+-- Whether IF and NOTIF take an element: in SegWit v0 any, in Tapscript the empty one and the byte 1 (BIP 342). Any other aborts.
+abbrev pub mayBranch : Context → Bytes → Bool
+mayBranch Segwitv0 x = true
+mayBranch Tap x = same x [] || same x (1 ∷ [])
+
+-- What a word is to the machine: it works on the stacks, opens a condition by the element that it takes, if it takes that, turns it or
+-- closes it.
 pub data Effect : Type 0 where
   works : Action → Effect
-  opens : (Bytes → Bool) → Effect
+  opens : (may holds : Bytes → Bool) → Effect
   turns closes : Effect
 
 -- Each word of Script, in each context.
@@ -153,8 +161,8 @@ effect c o NUMEQUALVERIFY = works (numEquals then verify)
 effect c o CHECKSIGVERIFY = works (checkSig (o .signs) then verify)
 effect c o CHECKMULTISIGVERIFY = works (checkMultiSig (o .allSign) then verify)
 effect c o CHECKSIGADD = works (checkSigAdd (o .signs))
-effect c o IF = opens isTrue
-effect c o NOTIF = opens λ x. not (isTrue x)
+effect c o IF = opens (mayBranch c) isTrue
+effect c o NOTIF = opens (mayBranch c) λ x. not (isTrue x)
 effect c o ELSE = turns
 effect c o ENDIF = closes
 
@@ -172,13 +180,13 @@ abbrev pub under : List Bool → Result → State
 under cs abort = aborted
 under cs (done m a) = state m a cs
 
-abbrev pub opened : (Bytes → Bool) → Stack → Stack → List Bool → State
-opened holds [] a cs = aborted
-opened holds (x ∷ m) a cs = state m a (holds x ∷ cs)
+abbrev pub opened : (may holds : Bytes → Bool) → Stack → Stack → List Bool → State
+opened may holds [] a cs = aborted
+opened may holds (x ∷ m) a cs = cond (may x) (state m a (holds x ∷ cs)) aborted
 
 unfoldable pub step : Effect → Stack → Stack → List Bool → State
 step (works g) m a cs = cond (allTrue cs) (under cs (g m a)) (state m a cs)
-step (opens holds) m a cs = cond (allTrue cs) (opened holds m a cs) (state m a (false ∷ cs))
+step (opens may holds) m a cs = cond (allTrue cs) (opened may holds m a cs) (state m a (false ∷ cs))
 step turns m a [] = aborted
 step turns m a (c ∷ cs) = state m a (not c ∷ cs)
 step closes m a [] = aborted

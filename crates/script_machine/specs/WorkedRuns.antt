@@ -8,6 +8,7 @@ use lib.IntN.{ℤ, pos, negsuc}
 use lib.ListN.{replicate}
 use Rattle.types.specs.declared.TypeResult.the-variants.{IllTyped}
 use Rattle.contexts.specs.declared.Context.{Context}
+use Rattle.contexts.specs.declared.Context.the-variants.{Segwitv0, Tap}
 use Rattle.trees.specs.Fragment.{Fragment, end, _▹_, Lock, Hash}
 use Rattle.contexts.specs.Leaves.{LockKind, After, Older, HashKind, Sha256, Hash256, Ripemd160, Hash160}
 use Rattle.trees.specs.Fragment.{True, PkK, PkH, Alt, Swap, Check, DupIf, Verify, NonZero, ZeroNotEqual}
@@ -16,7 +17,7 @@ use Rattle.trees.specs.Typing.{typeOf}
 use Rattle.script_machine.specs.Numbers.{Bytes, Stack, same}
 use Rattle.script_machine.specs.Machine.{Outcomes, State, aborted, state, run}
 use Rattle.script_machine.specs.Translation.{script}
-use Rattle.script_machine.specs.Words.{Word, <n>, DUP, VERIFY, 0NOTEQUAL, ADD, IF, ELSE, ENDIF}
+use Rattle.script_machine.specs.Words.{Word, <n>, DUP, VERIFY, 0NOTEQUAL, ADD, IF, NOTIF, ELSE, ENDIF}
 
 -- Outcomes of a toy: key n is two bytes, a key's one good signature is the byte 48 before it, a hash is a tag before what it hashes,
 -- hash number n is that of 32 bytes n; heights pass up to 100, ages up to 50.
@@ -124,6 +125,13 @@ yes = 1 ∷ []
 abbrev pub no : Bytes
 no = []
 
+-- 7 or 8, by IF and by NOTIF.
+abbrev pub byIf : List Word
+byIf = IF ∷ <n> 7 ∷ ELSE ∷ <n> 8 ∷ ENDIF ∷ []
+
+abbrev pub byNotIf : List Word
+byNotIf = NOTIF ∷ <n> 7 ∷ ELSE ∷ <n> 8 ∷ ENDIF ∷ []
+
 abbrev pub cases : List Case
 cases =
     leaves (script (pk 1)) (sig 1 ∷ []) (yes ∷ [])
@@ -166,8 +174,7 @@ cases =
     ∷ leaves (script (OrC (pk 1) (Verify (pk 2)))) (sig 1 ∷ []) []
     ∷ leaves (script (OrC (pk 1) (Verify (pk 2)))) (no ∷ sig 2 ∷ []) []
     ∷ aborts (script (OrC (pk 1) (Verify (pk 2)))) (no ∷ no ∷ [])
-    -- a negative zero is false to IF, and DupIf leaves it, which is why DupIf is not u; NonZero leaves an empty element
-    ∷ leaves (script (DupIf (Verify True))) ((0 ∷ 128 ∷ []) ∷ []) ((0 ∷ 128 ∷ []) ∷ [])
+    -- NonZero leaves an empty element
     ∷ leaves (script (NonZero (pk 1))) (no ∷ []) (no ∷ [])
     ∷ leaves (script (NonZero (pk 1))) (sig 1 ∷ []) (yes ∷ [])
     -- numbers: up to 4 bytes, negative and not minimal ones too; a fifth byte aborts; a sum may take 5 bytes
@@ -175,13 +182,44 @@ cases =
     ∷ leaves (0NOTEQUAL ∷ []) ((0x00 ∷ 0x00 ∷ 0x00 ∷ 0x80 ∷ []) ∷ []) (no ∷ [])
     ∷ aborts (0NOTEQUAL ∷ []) ((0x01 ∷ 0x00 ∷ 0x00 ∷ 0x00 ∷ 0x00 ∷ []) ∷ [])
     ∷ leaves (DUP ∷ ADD ∷ []) ((0xff ∷ 0xff ∷ 0xff ∷ 0x7f ∷ []) ∷ []) ((0xfe ∷ 0xff ∷ 0xff ∷ 0xff ∷ 0x00 ∷ []) ∷ [])
+    -- IF takes the empty element for false and the byte 1 for true, NOTIF the other way round
+    ∷ leaves byIf (yes ∷ []) ((7 ∷ []) ∷ [])
+    ∷ leaves byIf (no ∷ []) ((8 ∷ []) ∷ [])
+    ∷ leaves byNotIf (yes ∷ []) ((8 ∷ []) ∷ [])
+    ∷ leaves byNotIf (no ∷ []) ((7 ∷ []) ∷ [])
     -- conditions: in a branch that is not taken nothing is carried out, but its conditions are counted
     ∷ leaves (IF ∷ IF ∷ VERIFY ∷ ELSE ∷ DUP ∷ ENDIF ∷ ELSE ∷ <n> 300 ∷ ENDIF ∷ []) (no ∷ []) ((0x2c ∷ 0x01 ∷ []) ∷ [])
     ∷ aborts (ENDIF ∷ []) []
     ∷ []
 
+-- Elements before IF and NOTIF that are neither empty nor the byte 1: 2, 0x80, 0x0100 and a zero byte. SegWit v0 takes each for true or
+-- false; in Tapscript each aborts. So DupIf leaves a negative zero in SegWit v0, which is why it is u in Tapscript alone.
+abbrev pub casesIn : Context → List Case
+casesIn Segwitv0 =
+    leaves byIf ((0x02 ∷ []) ∷ []) ((7 ∷ []) ∷ [])
+    ∷ leaves byIf ((0x80 ∷ []) ∷ []) ((8 ∷ []) ∷ [])
+    ∷ leaves byIf ((0x01 ∷ 0x00 ∷ []) ∷ []) ((7 ∷ []) ∷ [])
+    ∷ leaves byIf ((0x00 ∷ []) ∷ []) ((8 ∷ []) ∷ [])
+    ∷ leaves byNotIf ((0x02 ∷ []) ∷ []) ((8 ∷ []) ∷ [])
+    ∷ leaves byNotIf ((0x80 ∷ []) ∷ []) ((7 ∷ []) ∷ [])
+    ∷ leaves byNotIf ((0x01 ∷ 0x00 ∷ []) ∷ []) ((8 ∷ []) ∷ [])
+    ∷ leaves byNotIf ((0x00 ∷ []) ∷ []) ((7 ∷ []) ∷ [])
+    ∷ leaves (script (DupIf (Verify True))) ((0x00 ∷ 0x80 ∷ []) ∷ []) ((0x00 ∷ 0x80 ∷ []) ∷ [])
+    ∷ []
+casesIn Tap =
+    aborts byIf ((0x02 ∷ []) ∷ [])
+    ∷ aborts byIf ((0x80 ∷ []) ∷ [])
+    ∷ aborts byIf ((0x01 ∷ 0x00 ∷ []) ∷ [])
+    ∷ aborts byIf ((0x00 ∷ []) ∷ [])
+    ∷ aborts byNotIf ((0x02 ∷ []) ∷ [])
+    ∷ aborts byNotIf ((0x80 ∷ []) ∷ [])
+    ∷ aborts byNotIf ((0x01 ∷ 0x00 ∷ []) ∷ [])
+    ∷ aborts byNotIf ((0x00 ∷ []) ∷ [])
+    ∷ aborts (script (DupIf (Verify True))) ((0x00 ∷ 0x80 ∷ []) ∷ [])
+    ∷ []
+
 abbrev pub WorkedRuns : Type 0
-WorkedRuns = (c : Context) → allHold c cases ≡ true
+WorkedRuns = (c : Context) → allHold c (cases ++ casesIn c) ≡ true
 
 -- Why a NonZero must have a child that is n: over one that removes none it reads an element that it then leaves or not, as it finds it.
 -- Why a Thresh must have W after its first child: two B sign in turn, and the second takes the first one's answer for its signature.

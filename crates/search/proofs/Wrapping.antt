@@ -131,7 +131,7 @@ module _ (C : Context) (sat : Float) {pol : List ℕ} {r : ℕ} {dissat : Dissat
   pub wrapped-casts : {d : Float} → dissat ≡ Prob.Some d → {w : Closed} {m : List ℕ}
       → Tabled 0
       (then (tableAnswer pol m₁ o)
-      (λ t. castsOf C (probs sat dissat) (search C (policyAt pol r) (without (probs sat dissat))) allCasts t)) pol w m₁ m
+      (λ t. castsOf C (probs sat dissat) (search C (policyAt pol r) (without (probs sat dissat))) (allCasts C) t)) pol w m₁ m
       → Tabled 0
       (then (tableAnswer pol m₀ c)
       (λ t. wrapped C (probs sat dissat) (againIn C (policyAt pol r) (probs sat dissat)) (offered pol m₀ x) t)) pol w m₀ m
@@ -143,7 +143,7 @@ module _ (C : Context) (sat : Float) {pol : List ℕ} {r : ℕ} {dissat : Dissat
       ∙ ap (λ (d : DissatProb). wrapped C (probs sat dissat) (againFor C (policyAt pol r) (probs sat dissat) d) (offered pol m₀ x)
       (seenTable pol m₀ (c .table)) (stateIn pol m₀)) (sym is))
       (tabled-then (closes-tabled (h .ready) closes)
-      (λ t. castsOf C (probs sat dissat) (search C (policyAt pol r) (without (probs sat dissat))) allCasts t) casts))
+      (λ t. castsOf C (probs sat dissat) (search C (policyAt pol r) (without (probs sat dissat))) (allCasts C) t) casts))
 
 pub flag-some : {dissat : DissatProb} {d : Float} → dissat ≡ Prob.Some d → flagOf dissat ≡ 1
 flag-some is = ap flagOf is
@@ -175,7 +175,7 @@ module _ (C : Context) (p : Probs) (g : Again) {pol : List ℕ} {r : ℕ} {dissa
 -- the casts of a slot's entries
 inserted-tabled : {pol m₀ m : List ℕ} {C : Context} {p : Probs} {s number : ℕ} {t : Table} {o : Closed} → Ready pol m₀
     → InsertedCasts C p s number t o m₀ m
-    → Tabled 0 (forEach (λ x. insertedIfTyped C p (castNo number x)) (slotTable pol m₀ s) (seenTable pol m₀ t) (stateIn pol m₀)) pol o m₀ m
+    → Tabled 0 (forEach (λ x. insertedIfTyped C p (castNo C number x)) (slotTable pol m₀ s) (seenTable pol m₀ t) (stateIn pol m₀)) pol o m₀ m
 inserted-tabled {pol} {m₀} {m} {o = o} ready casts =
     let on = extends-onward ready (casts .extends) in
     record {
@@ -192,7 +192,7 @@ module _ (C : Context) (p : Probs) (again : M definition-tables.Table) (number :
     (ready : Ready pol m₀)
     (table : TableHolds m₀ t) (h : Searched (again (stateIn pol m₀)) pol out m₀ m₁) where
   pub cast-refused : {n : ℕ} → out ≡ Out.Refused n
-      → Tabled 0 (castOnce C p again (castNo number) (seenTable pol m₀ t) (stateIn pol m₀)) pol (closed t (Refused n)) m₀ m₁
+      → Tabled 0 (castOnce C p again (castNo C number) (seenTable pol m₀ t) (stateIn pol m₀)) pol (closed t (Refused n)) m₀ m₁
   cast-refused {n} is = searched-stop h _ n is (closed t (Refused n)) refl (onward-holds ready (h .onward) t table)
 
   -- what the casts of the entries ask for
@@ -204,11 +204,11 @@ module _ (C : Context) (p : Probs) (again : M definition-tables.Table) (number :
       )
 
   pub cast-done : {s : ℕ} → out ≡ Out.Slot s → {o : Closed} {m : List ℕ} → InsertedCasts C p s number t o m₁ m
-      → Tabled 0 (castOnce C p again (castNo number) (seenTable pol m₀ t) (stateIn pol m₀)) pol o m₀ m
+      → Tabled 0 (castOnce C p again (castNo C number) (seenTable pol m₀ t) (stateIn pol m₀)) pol o m₀ m
   cast-done {s} is casts =
       searched-next h _ s is
       (tabled-as
-      (ap (λ (t : definition-tables.Table). forEach (λ x. insertedIfTyped C p (castNo number x)) (slotTable pol m₁ s) t (stateIn pol m₁))
+      (ap (λ (t : definition-tables.Table). forEach (λ x. insertedIfTyped C p (castNo C number x)) (slotTable pol m₁ s) t (stateIn pol m₁))
       (onward-table ready (h .onward) t table))
       (inserted-tabled (h .ready) casts))
 
@@ -217,8 +217,8 @@ module _ (C : Context) (p : Probs) (again : M definition-tables.Table) (number :
 -- before the cast of a number, in memory m, with the table t: the casts still to come give what all ten give
 pub record CastsOn (C : Context) (p : Probs) (again : M definition-tables.Table) (pol : List ℕ) (t₀ : Table) (m₀ : List ℕ) (number : ℕ) (t : Table)
     (m : List ℕ) : Type 0 where
-  pub says : castsOf C p again (drop number allCasts) (seenTable pol m t) (stateIn pol m)
-      ≡ castsOf C p again allCasts (seenTable pol m₀ t₀) (stateIn pol m₀)
+  pub says : castsOf C p again (drop number (allCasts C)) (seenTable pol m t) (stateIn pol m)
+      ≡ castsOf C p again (allCasts C) (seenTable pol m₀ t₀) (stateIn pol m₀)
   pub ready : Ready pol m
   pub onward : Onward m₀ m
   pub table : TableHolds m t
@@ -241,14 +241,14 @@ module _ (C : Context) (p : Probs) (again : M definition-tables.Table) {pol m₀
         }
 
     pub casts-end : 10 ≤ number → number ≤ 10
-        → Tabled 0 (then (tableAnswer pol m₀ c) (λ t. castsOf C p again allCasts t)) pol (closed t Done) m₀ m
+        → Tabled 0 (then (tableAnswer pol m₀ c) (λ t. castsOf C p again (allCasts C) t)) pol (closed t Done) m₀ m
     casts-end ge le =
         let is : number ≡ 10 = omega arith in
-        starts h (λ t. castsOf C p again allCasts t) e
+        starts h (λ t. castsOf C p again (allCasts C) t) e
         (record {
           says =
               sym (i .says)
-              ∙ ap (λ (n : ℕ). castsOf C p again (drop n allCasts) (seenTable pol m t) (stateIn pol m)) is
+              ∙ ap (λ (n : ℕ). castsOf C p again (drop n (allCasts C)) (seenTable pol m t) (stateIn pol m)) is
               ∙ castsOf-none C p again (seenTable pol m t) (stateIn pol m);
           ready = i .ready;
           onward = i .onward;
@@ -257,24 +257,24 @@ module _ (C : Context) (p : Probs) (again : M definition-tables.Table) {pol m₀
         })
 
     module _ (few : number < 10) {o : Closed} {m′ : List ℕ}
-        (one : Tabled 0 (castOnce C p again (castNo number) (seenTable pol m t) (stateIn pol m)) pol o m m′) where
+        (one : Tabled 0 (castOnce C p again (castNo C number) (seenTable pol m t) (stateIn pol m)) pol o m m′) where
       -- the next cast, then the others
-      step : castsOf C p again allCasts (seenTable pol m₀ (c .table)) (stateIn pol m₀)
-          ≡ then (castOnce C p again (castNo number) (seenTable pol m t) (stateIn pol m)) (λ t. castsOf C p again (drop (suc number) allCasts) t)
+      step : castsOf C p again (allCasts C) (seenTable pol m₀ (c .table)) (stateIn pol m₀)
+          ≡ then (castOnce C p again (castNo C number) (seenTable pol m t) (stateIn pol m)) (λ t. castsOf C p again (drop (suc number) (allCasts C)) t)
       step =
           sym (i .says)
-          ∙ ap (λ (fs : List Cast). castsOf C p again fs (seenTable pol m t) (stateIn pol m)) (casts-from number few)
-          ∙ castsOf-next C p again (castNo number) (drop (suc number) allCasts) (seenTable pol m t) (stateIn pol m)
+          ∙ ap (λ (fs : List Cast). castsOf C p again fs (seenTable pol m t) (stateIn pol m)) (casts-from C number few)
+          ∙ castsOf-next C p again (castNo C number) (drop (suc number) (allCasts C)) (seenTable pol m t) (stateIn pol m)
           ∙ sym
-          (then-then (again (stateIn pol m)) (λ xs. forEach (λ x. insertedIfTyped C p (castNo number x)) xs (seenTable pol m t))
-          (λ t. castsOf C p again (drop (suc number) allCasts) t))
+          (then-then (again (stateIn pol m)) (λ xs. forEach (λ x. insertedIfTyped C p (castNo C number x)) xs (seenTable pol m t))
+          (λ t. castsOf C p again (drop (suc number) (allCasts C)) t))
 
       pub casts-refused : {n : ℕ} → o .end ≡ Refused n
-          → Tabled 0 (then (tableAnswer pol m₀ c) (λ t. castsOf C p again allCasts t)) pol (closed (o .table) (Refused n)) m₀ m′
+          → Tabled 0 (then (tableAnswer pol m₀ c) (λ t. castsOf C p again (allCasts C) t)) pol (closed (o .table) (Refused n)) m₀ m′
       casts-refused {n} is =
-          starts h (λ t. castsOf C p again allCasts t) e
+          starts h (λ t. castsOf C p again (allCasts C) t) e
           (record {
-            says = step ∙ then-refused (λ t. castsOf C p again (drop (suc number) allCasts) t) (tabled-refused one n is);
+            says = step ∙ then-refused (λ t. castsOf C p again (drop (suc number) (allCasts C)) t) (tabled-refused one n is);
             ready = one .ready;
             onward = onward-trans (i .onward) (one .onward);
             table = one .table;
@@ -285,8 +285,8 @@ module _ (C : Context) (p : Probs) (again : M definition-tables.Table) {pol m₀
       casts-go-on is =
           record {
             says =
-                ap (λ (n : ℕ). castsOf C p again (drop n allCasts) (seenTable pol m′ (o .table)) (stateIn pol m′)) (add-one number)
-                ∙ sym (step ∙ then-done (λ t. castsOf C p again (drop (suc number) allCasts) t) (tabled-done one is));
+                ap (λ (n : ℕ). castsOf C p again (drop n (allCasts C)) (seenTable pol m′ (o .table)) (stateIn pol m′)) (add-one number)
+                ∙ sym (step ∙ then-done (λ t. castsOf C p again (drop (suc number) (allCasts C)) t) (tabled-done one is));
             ready = one .ready;
             onward = onward-trans (i .onward) (one .onward);
             table = one .table;

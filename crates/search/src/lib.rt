@@ -520,7 +520,7 @@ fn casts_of(
     c: Closed,
 ) -> Closed
     requires { ⌜ Doing (now pol) r dissat c (now work) × (flagOf dissat ≡ 1) ⌝ }
-    ensures { λ o. ⌜ Tabled 0 (then (tableAnswer (now (pol .entry)) (now (work .entry)) c) (λ t. castsOf context (probs sat dissat) (search context (policyAt (now (pol .entry)) r) (without (probs sat dissat))) allCasts t)) (now (pol .entry)) o (now (work .entry)) (now (work .exit)) ⌝ }
+    ensures { λ o. ⌜ Tabled 0 (then (tableAnswer (now (pol .entry)) (now (work .entry)) c) (λ t. castsOf context (probs sat dissat) (search context (policyAt (now (pol .entry)) r) (without (probs sat dissat))) (allCasts context) t)) (now (pol .entry)) o (now (work .entry)) (now (work .exit)) ⌝ }
 {
     let mut table = c.table;
     let end = c.end;
@@ -567,7 +567,7 @@ fn cast_once(
     t: Table,
 ) -> Closed
     requires { ⌜ (Going 1 (now pol) r dissat (now work) × TableHolds (now work) t) × ((flagOf dissat ≡ 1) × (number < 10)) ⌝ }
-    ensures { λ o. ⌜ Tabled 0 (castOnce context (probs sat dissat) (search context (policyAt (now (pol .entry)) r) (without (probs sat dissat))) (castNo number) (seenTable (now (pol .entry)) (now (work .entry)) t) (stateIn (now (pol .entry)) (now (work .entry)))) (now (pol .entry)) o (now (work .entry)) (now (work .exit)) ⌝ }
+    ensures { λ o. ⌜ Tabled 0 (castOnce context (probs sat dissat) (search context (policyAt (now (pol .entry)) r) (without (probs sat dissat))) (castNo context number) (seenTable (now (pol .entry)) (now (work .entry)) t) (stateIn (now (pol .entry)) (now (work .entry)))) (now (pol .entry)) o (now (work .entry)) (now (work .exit)) ⌝ }
 {
     match search(context, pol, work, r, sat, DissatProb::None) {
         Out::Refused(no) => Closed {

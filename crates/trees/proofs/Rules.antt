@@ -18,7 +18,7 @@ use Rattle.trees.specs.Reading.{mapAnswer}
 use Rattle.trees.specs.Tree.{Line, _is_, find, Maker, plain, withNumber, one, two, three, fragments, ofChildren, ofKeys, makers}
 use Rattle.trees.specs.TreeCheck.{Typed}
 use Rattle.trees.specs.TreeCheck as check
-use Rattle.trees.specs.Rules.{Rule, answered, ofNone, ofOne, ofTwo, ofThree, ofAll, always, rules}
+use Rattle.trees.specs.Rules.{Rule, answered, ofNone, ofOne, ofOneIn, ofTwo, ofThree, ofAll, always, rules}
 use Rattle.trees.proofs.Slots.{All, Any, both, here, there, IfSome}
 
 module _ (c : Context) where
@@ -109,6 +109,10 @@ module _ (c : Context) where
       ill p (x ∷ []) (here e) = h x ∙ rw e
       ill p (x ∷ y ∷ xs) a = tt
 
+  one-in-fits : (f : Fragment → Fragment) (r : Context → «Type» → TypeResult) → ((x : Fragment) → typeOf c (f x) ≡ (typeOf c x >>= r c))
+      → Fits (one f) (ofOneIn r)
+  one-in-fits f r h = let w = one-fits f (r c) h in record { same = w .same; ill = w .ill }
+
   two-fits : (f : Fragment → Fragment → Fragment) (r : «Type» → «Type» → TypeResult)
       → ((x y : Fragment) → typeOf c (f x y) ≡ (typeOf c x >>= λ s. typeOf c y >>= λ t. r s t)) → Fits (two f) (ofTwo r)
   two-fits f r h = record { same = same; ill = ill }
@@ -189,7 +193,7 @@ module _ (c : Context) where
       (line (number-fits _ _ λ n. refl) (line (number-fits _ _ λ n. refl)
       (line (number-fits _ _ λ n. refl) (line (number-fits _ _ λ n. refl)
       (line (number-fits _ _ λ n. refl) (line (number-fits _ _ λ n. refl) (line (number-fits _ _ λ n. refl) (line (number-fits _ _ λ n. refl)
-      (line (one-fits _ _ λ x. refl) (line (one-fits _ _ λ x. refl) (line (one-fits _ _ λ x. refl) (line (one-fits _ _ λ x. refl)
+      (line (one-fits _ _ λ x. refl) (line (one-fits _ _ λ x. refl) (line (one-fits _ _ λ x. refl) (line (one-in-fits _ _ λ x. refl)
       (line (one-fits _ _ λ x. refl) (line (one-fits _ _ λ x. refl) (line (one-fits _ _ λ x. refl)
       (line (two-fits _ _ λ x y. refl) (line (two-fits _ _ λ x y. refl) (line (two-fits _ _ λ x y. refl)
       (line (two-fits _ _ λ x y. refl) (line (two-fits _ _ λ x y. refl) (line (two-fits _ _ λ x y. refl)

@@ -30,6 +30,10 @@ ofOne rule c k [] = refused badTree
 ofOne rule c k (t ∷ []) = answered (rule t)
 ofOne rule c k (t ∷ u ∷ ts) = refused badTree
 
+-- a rule that asks for the context
+abbrev pub ofOneIn : (Context → «Type» → TypeResult) → Rule
+ofOneIn rule c = ofOne (rule c) c
+
 abbrev pub ofTwo : («Type» → «Type» → TypeResult) → Rule
 ofTwo rule c k [] = refused badTree
 ofTwo rule c k (t ∷ []) = refused badTree
@@ -64,7 +68,7 @@ rules =
     ∷ 42 is ofOne rule.castAlt
     ∷ 43 is ofOne rule.castSwap
     ∷ 44 is ofOne rule.castCheck
-    ∷ 45 is ofOne rule.castDupif
+    ∷ 45 is ofOneIn rule.castDupif
     ∷ 46 is ofOne rule.castVerify
     ∷ 47 is ofOne rule.castNonzero
     ∷ 48 is ofOne rule.castZeronotequal

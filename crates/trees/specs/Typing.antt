@@ -48,7 +48,7 @@ unfoldable mutual
   typeOf c (Alt x) = typeOf c x >>= rule.castAlt
   typeOf c (Swap x) = typeOf c x >>= rule.castSwap
   typeOf c (Check x) = typeOf c x >>= rule.castCheck
-  typeOf c (DupIf x) = typeOf c x >>= rule.castDupif
+  typeOf c (DupIf x) = typeOf c x >>= rule.castDupif c
   typeOf c (Verify x) = typeOf c x >>= rule.castVerify
   typeOf c (NonZero x) = typeOf c x >>= rule.castNonzero
   typeOf c (ZeroNotEqual x) = typeOf c x >>= rule.castZeronotequal

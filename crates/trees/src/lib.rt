@@ -75,15 +75,15 @@ fn leaf_type(kind: u16) -> Type
 }
 
 // The type of a cast of kind 42 to 48.
-fn cast_type(kind: u16, x: Type) -> TypeResult
+fn cast_type(context: Context, kind: u16, x: Type) -> TypeResult
     requires { ⌜ (42 ≤ kind) × (kind ≤ 48) ⌝ }
-    ensures { λ r. ⌜ ((c : Context) (k : ℕ) → ruleOf kind c k (x ∷ []) ≡ answered r) ⌝ }
+    ensures { λ r. ⌜ ((k : ℕ) → ruleOf kind context k (x ∷ []) ≡ answered r) ⌝ }
 {
     match kind {
         42 => x.cast_alt(),
         43 => x.cast_swap(),
         44 => x.cast_check(),
-        45 => x.cast_dupif(),
+        45 => x.cast_dupif(context),
         46 => x.cast_verify(),
         47 => x.cast_nonzero(),
         _ => x.cast_zeronotequal(),
@@ -150,7 +150,7 @@ fn rule_of(context: Context, kind: u16, k: usize, count: usize, types: [Type; 16
         32..=41 => TypeResult::Ok(leaf_type(kind)),
         42..=48 => {
             let x = types[0];
-            cast_type(kind, x)
+            cast_type(context, kind, x)
         }
         49..=54 => {
             let x = types[0];

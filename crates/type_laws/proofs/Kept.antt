@@ -4,6 +4,8 @@ use mathlib.Core.Bool.{Bool, true, false, cond, not, _&&_, _||_}
 use mathlib.Core.List.{List, [], _∷_}
 use lib.Dec.{eqb}
 use borrow.Author.Tests.{eqb-true}
+use Rattle.contexts.specs.declared.Context.{Context}
+use Rattle.contexts.specs.declared.Context.the-variants.{Segwitv0, Tap}
 use Rattle.correctness.specs.declared.Base.{Base}
 use Rattle.correctness.specs.declared.Base.the-variants.{B, K, «V», W}
 use Rattle.correctness.specs.declared.Input.{Input}
@@ -72,8 +74,9 @@ cast-swap = cast rule.castSwap refl
 pub cast-check : Kept rule.castCheck
 cast-check = cast rule.castCheck refl
 
-pub cast-dupif : Kept rule.castDupif
-cast-dupif = cast rule.castDupif refl
+pub cast-dupif : (c : Context) → Kept (rule.castDupif c)
+cast-dupif Segwitv0 = cast (rule.castDupif Segwitv0) refl
+cast-dupif Tap = cast (rule.castDupif Tap) refl
 
 pub cast-verify : Kept rule.castVerify
 cast-verify = cast rule.castVerify refl

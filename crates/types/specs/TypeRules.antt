@@ -4,6 +4,7 @@ use mathlib.Core.List.{List, map}
 use Prim.Native.Nat.{ℕ}
 use lib.Dec.{leb}
 use lib.ListN.{length, take}
+use Rattle.contexts.specs.declared.Context.{Context}
 use Rattle.types.specs.Names.{Malleability, CorrectnessResult, «Type», TypeResult, Ok, IllTyped}
 use Rattle.correctness.specs.declared.CorrectnessResult.the-variants as Corr
 use Rattle.correctness.specs.CorrectnessRules as corr
@@ -50,8 +51,8 @@ castSwap t = typed (corr.castSwap (t .corr)) (mall.castSwap (t .mall))
 abbrev pub castCheck : «Type» → TypeResult
 castCheck t = typed (corr.castCheck (t .corr)) (mall.castCheck (t .mall))
 
-abbrev pub castDupif : «Type» → TypeResult
-castDupif t = typed (corr.castDupif (t .corr)) (mall.castDupif (t .mall))
+abbrev pub castDupif : Context → «Type» → TypeResult
+castDupif context t = typed (corr.castDupif context (t .corr)) (mall.castDupif (t .mall))
 
 abbrev pub castVerify : «Type» → TypeResult
 castVerify t = typed (corr.castVerify (t .corr)) (mall.castVerify (t .mall))

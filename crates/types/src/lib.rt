@@ -6,6 +6,7 @@ ghost use Rattle.types.specs.TypeRules.{castAlt, castSwap, castCheck, ca
 ghost use Rattle.types.specs.TypeRules.{castZeronotequal, castTrue, castUnlikely, castLikely};
 ghost use Rattle.types.specs.TypeRules.{andB, andV, orB, orD, orC, orI, andOr, thresholdOf};
 ghost use Rattle.types.specs.ThresholdSteps.{typeFirst, typeNext, typeResult};
+use contexts::Context;
 use correctness::Correctness;
 use correctness::CorrectnessResult;
 use correctness::CorrectnessSoFar;
@@ -150,11 +151,11 @@ impl Type {
         typed(self.corr.cast_check(), self.mall.cast_check())
     }
 
-    // The type of d:X.
-    pub fn cast_dupif(self) -> TypeResult
-        ensures { λ r. ⌜ r ≡ castDupif self ⌝ }
+    // The type of d:X in a context.
+    pub fn cast_dupif(self, context: Context) -> TypeResult
+        ensures { λ r. ⌜ r ≡ castDupif context self ⌝ }
     {
-        typed(self.corr.cast_dupif(), self.mall.cast_dupif())
+        typed(self.corr.cast_dupif(context), self.mall.cast_dupif())
     }
 
     // The type of v:X.

@@ -29,8 +29,8 @@ insert-requires c κs =
       pre .0,
       (
         pre .1 .0,
-        cast-fresh (pre .0) (pre .1 .1 .0) (args .number)
-            (cast-told (args .work .now) (args .e) (args .number) (node .ensures) (cast .ensures) (y .given .1)),
+        cast-fresh (pre .0) (pre .1 .1 .0) (args .context) (args .number)
+            (cast-told (args .context) (args .work .now) (args .e) (args .number) (node .ensures) (cast .ensures) (y .given .1)),
       ),
     )
 
@@ -64,7 +64,7 @@ returns c =
     let args = c .before .before .before .before .before .before .before .before .before .before .before .before .before .before .args in
     let pre = c .before .before .before .before .before .before .before .before .before .before .before .before .before .before .pre in
     entered-offered (args .context) (probs (args .sat) (args .dissat)) (pre .0) (pre .1 .1 .0) (args .number)
-    (cast-told (args .work .now) (args .e) (args .number) (node .ensures) (cast .ensures) (y .given .1)) (insert .ensures) (c .enum-told .given .1)
+    (cast-told (args .context) (args .work .now) (args .e) (args .number) (node .ensures) (cast .ensures) (y .given .1)) (insert .ensures) (c .enum-told .given .1)
 
 same-length-2 : tie.Need-same-length-2
 same-length-2 c =
@@ -81,7 +81,7 @@ returns-2 c =
     let args = c .before .before .before .before .before .before .before .before .before .before .before .before .before .before .args in
     let pre = c .before .before .before .before .before .before .before .before .before .before .before .before .before .before .pre in
     turned-offered (args .context) (probs (args .sat) (args .dissat)) (pre .0) (pre .1 .1 .0) (args .number)
-    (cast-told (args .work .now) (args .e) (args .number) (node .ensures) (cast .ensures) (y .given .1)) (insert .ensures) (c .enum-told2 .given .1)
+    (cast-told (args .context) (args .work .now) (args .e) (args .number) (node .ensures) (cast .ensures) (y .given .1)) (insert .ensures) (c .enum-told2 .given .1)
 
 same-length-3 : tie.Need-same-length-3
 same-length-3 c =
@@ -99,7 +99,7 @@ returns-3 c =
     let args = c .before .before .before .before .before .before .before .before .before .before .before .before .before .before .before .args in
     let pre = c .before .before .before .before .before .before .before .before .before .before .before .before .before .before .before .pre in
     refused-offered (args .context) (probs (args .sat) (args .dissat)) (pre .0) (pre .1 .1 .0) (args .number)
-    (cast-told (args .work .now) (args .e) (args .number) (node .ensures) (cast .ensures) (y .given .1)) (insert .ensures) (offer .given .1)
+    (cast-told (args .context) (args .work .now) (args .e) (args .number) (node .ensures) (cast .ensures) (y .given .1)) (insert .ensures) (offer .given .1)
 
 same-length-4 : tie.Need-same-length-4
 same-length-4 c = refl
@@ -111,7 +111,7 @@ returns-4 c =
     let args = c .before .before .before .before .before .before .args in
     let pre = c .before .before .before .before .before .before .pre in
     nothing-offered (args .context) (probs (args .sat) (args .dissat)) (pre .0) (pre .1 .1 .0) (args .number)
-    (cast-told (args .work .now) (args .e) (args .number) (node .ensures) (cast .ensures) (c .enum-told3 .given .1)) (λ pol. refl) (pre .1 .0)
+    (cast-told (args .context) (args .work .now) (args .e) (args .number) (node .ensures) (cast .ensures) (c .enum-told3 .given .1)) (λ pol. refl) (pre .1 .0)
 
 same-length-5 : tie.Need-same-length-5
 same-length-5 c = refl
@@ -123,7 +123,7 @@ returns-5 c =
     let args = c .before .before .before .before .before .before .args in
     let pre = c .before .before .before .before .before .before .pre in
     nothing-offered (args .context) (probs (args .sat) (args .dissat)) (pre .0) (pre .1 .1 .0) (args .number)
-    (cast-told (args .work .now) (args .e) (args .number) (node .ensures) (cast .ensures) (c .enum-told4 .given .1)) (λ pol. refl) (pre .1 .0)
+    (cast-told (args .context) (args .work .now) (args .e) (args .number) (node .ensures) (cast .ensures) (c .enum-told4 .given .1)) (λ pol. refl) (pre .1 .0)
 
 pub offer-cast-spec : {M : Type 1} → statement M
 offer-cast-spec =

@@ -31,8 +31,8 @@ insert-closure-requires c κs =
       pre .0,
       (
         pre .1 .0,
-        cast-fresh (pre .0) (pre .1 .1 .0) (args .number)
-            (cast-told (args .work .now) (args .e) (args .number) (node .ensures) (cast .ensures) (y .given .1)),
+        cast-fresh (pre .0) (pre .1 .1 .0) (args .context) (args .number)
+            (cast-told (args .context) (args .work .now) (args .e) (args .number) (node .ensures) (cast .ensures) (y .given .1)),
       ),
     )
 
@@ -57,7 +57,7 @@ returns c =
     let args = c .before .before .before .before .before .before .before .before .before .before .before .args in
     let pre = c .before .before .before .before .before .before .before .before .before .before .before .pre in
     cast-inserted (args .context) (probs (args .sat) (args .dissat)) (pre .0) (pre .1 .1 .0) (args .number)
-    (cast-told (args .work .now) (args .e) (args .number) (node .ensures) (cast .ensures) (y .given .1)) (insert-closure .ensures)
+    (cast-told (args .context) (args .work .now) (args .e) (args .number) (node .ensures) (cast .ensures) (y .given .1)) (insert-closure .ensures)
 
 same-length-2 : tie.Need-same-length-2
 same-length-2 c = refl
@@ -69,7 +69,7 @@ returns-2 c =
     let args = c .before .before .before .before .before .before .args in
     let pre = c .before .before .before .before .before .before .pre in
     nothing-inserted (args .context) (probs (args .sat) (args .dissat)) (pre .0) (pre .1 .1 .0) (args .number)
-    (cast-told (args .work .now) (args .e) (args .number) (node .ensures) (cast .ensures) (c .enum-told .given .1)) (λ pol. refl) (pre .1 .0)
+    (cast-told (args .context) (args .work .now) (args .e) (args .number) (node .ensures) (cast .ensures) (c .enum-told .given .1)) (λ pol. refl) (pre .1 .0)
 
 same-length-3 : tie.Need-same-length-3
 same-length-3 c = refl
@@ -81,7 +81,7 @@ returns-3 c =
     let args = c .before .before .before .before .before .before .args in
     let pre = c .before .before .before .before .before .before .pre in
     nothing-inserted (args .context) (probs (args .sat) (args .dissat)) (pre .0) (pre .1 .1 .0) (args .number)
-    (cast-told (args .work .now) (args .e) (args .number) (node .ensures) (cast .ensures) (c .enum-told2 .given .1)) (λ pol. refl) (pre .1 .0)
+    (cast-told (args .context) (args .work .now) (args .e) (args .number) (node .ensures) (cast .ensures) (c .enum-told2 .given .1)) (λ pol. refl) (pre .1 .0)
 
 pub insert-cast-spec : {M : Type 1} → statement M
 insert-cast-spec =

@@ -30,27 +30,27 @@ cast-zeronotequal-requires c κs = search needs
 
 returns : tie.Need-returns
 unfolding find
-returns c = λ context k. simp (c .before .match .keys1, c .cast-alt .ensures)
+returns c = λ k. simp (c .before .match .keys1, c .cast-alt .ensures)
 
 returns-2 : tie.Need-returns-2
 unfolding find
-returns-2 c = λ context k. simp (c .before .match .keys2, c .cast-swap .ensures)
+returns-2 c = λ k. simp (c .before .match .keys2, c .cast-swap .ensures)
 
 returns-3 : tie.Need-returns-3
 unfolding find
-returns-3 c = λ context k. simp (c .before .match .keys3, c .cast-check .ensures)
+returns-3 c = λ k. simp (c .before .match .keys3, c .cast-check .ensures)
 
 returns-4 : tie.Need-returns-4
 unfolding find
-returns-4 c = λ context k. simp (c .before .match .keys4, c .cast-dupif .ensures)
+returns-4 c = λ k. simp (c .before .match .keys4, c .cast-dupif .ensures)
 
 returns-5 : tie.Need-returns-5
 unfolding find
-returns-5 c = λ context k. simp (c .before .match .keys5, c .cast-verify .ensures)
+returns-5 c = λ k. simp (c .before .match .keys5, c .cast-verify .ensures)
 
 returns-6 : tie.Need-returns-6
 unfolding find
-returns-6 c = λ context k. simp (c .before .match .keys6, c .cast-nonzero .ensures)
+returns-6 c = λ k. simp (c .before .match .keys6, c .cast-nonzero .ensures)
 
 returns-7 : tie.Need-returns-7
 unfolding find
@@ -61,7 +61,7 @@ returns-7 c =
     let l = past (past (past (past (past (past (pre .0) (rest .0 .0 .0 .0 .0 .1)) (rest .0 .0 .0 .0 .1)) (rest .0 .0 .0 .1)) (rest .0 .0 .1))
     (rest .0 .1)) (rest .1) in
     let e : args .kind ≡ 48 = omega (arith, l) in
-    λ context k. simp (e, c .cast-zeronotequal .ensures)
+    λ k. simp (e, c .cast-zeronotequal .ensures)
 
 pub cast-type-spec : {M : Type 1} → statement M
 cast-type-spec =

@@ -81,7 +81,7 @@ returns-6 c =
     let args = c .before .before .before .before .before .before .args in
     let len : length (args .t5) ≡ 16 = search needs in
     rule-one (args .kind) (args .count) (args .k) (args .context) (args .t5) _ len (omega arith) (omega arith)
-    (c .cast-type .ensures (args .context) (args .k))
+    (c .cast-type .ensures (args .k))
 
 returns-7 : tie.Need-returns-7
 returns-7 c =

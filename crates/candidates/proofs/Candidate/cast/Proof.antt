@@ -75,7 +75,7 @@ unfolding castFrom
 returns-10 c = rw (c .before .match .keys10) (c .cast-zeronotequal .ensures)
 
 returns-11 : tie.Need-returns-11
-returns-11 c = cast-unknown (c .before .args .number) (c .before .args .self) (c .before .args .node) (c .match .rest)
+returns-11 c = let a = c .before .args in cast-unknown (a .context) (a .number) (a .self) (a .node) (c .match .rest)
 
 pub cast-spec : {M : Type 1} → statement M
 cast-spec =

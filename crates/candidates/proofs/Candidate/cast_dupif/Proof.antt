@@ -25,14 +25,14 @@ enum-told c = search needs
 returns : tie.Need-returns
 returns c =
     let a = c .before .before .before .before .before .before .before .args in
-    cast-made dupif (a .self) (a .node)
+    cast-made (dupif (a .context)) (a .self) (a .node)
     (c .before .before .before .before .before .before .cast-dupif .ensures) (c .before .before .before .before .ty .given .1)
     (c .before .before .cast-dupif2 .ensures) (c .before .cast-dupif3 .ensures) (c .over .ensures)
 
 returns-2 : tie.Need-returns-2
 returns-2 c =
     let a = c .before .before .before .args in
-    cast-ill dupif (a .self) (a .node) (c .before .before .cast-dupif .ensures) (c .enum-told .given .1)
+    cast-ill (dupif (a .context)) (a .self) (a .node) (c .before .before .cast-dupif .ensures) (c .enum-told .given .1)
 
 pub cast-dupif-spec : {M : Type 1} → statement M
 cast-dupif-spec =
