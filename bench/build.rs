@@ -67,10 +67,12 @@ fn counted(text: &str) -> String {
     let pop = "        let current = cast_stack.pop_front().unwrap();\n";
     let store = "        policy_cache.insert((policy.clone(), ord_sat_prob, ord_dissat_prob), ret.clone());\n";
     let hit = "        return Ok(ret.clone());\n";
+    let gain = "                let diff = be.cost_1d(sp, dp) - bw.cost_1d(sp, dp);\n";
     let text = patched(text, elem_cost, &format!("{elem_cost}    crate::room::compare(elem_cost);\n"));
     let text = patched(&text, insert, &format!("        crate::room::accept(map.len());\n{insert}"));
     let text = patched(&text, queue, &format!("{queue}    let mut fuel = crate::room::Fuel::full();\n"));
     let text = patched(&text, pop, &format!("        fuel.pop();\n{pop}"));
+    let text = patched(&text, gain, &format!("{gain}                crate::room::gain(be.cost_1d(sp, dp), bw.cost_1d(sp, dp));\n"));
     let text = patched(&text, hit, &format!("        crate::room::remembered();\n{hit}"));
     patched(&text, store, &format!("        crate::room::store(policy_cache.len());\n{store}"))
 }

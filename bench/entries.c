@@ -15,18 +15,24 @@ int main(void) {
     /* On i686 a uint64_t may otherwise begin at any multiple of 4. */
     uint64_t bytes __attribute__((aligned(8))), cost __attribute__((aligned(8))), nodes __attribute__((aligned(8)));
     uint64_t i;
-    uint32_t number, ty;
+    uint32_t number, never, ty;
 
     if (work == NULL) {
         fputs("entries: no memory\n", stderr);
         return 1;
     }
-    number = claspwillow_compile(CLASPWILLOW_SEGWIT_V0, policy, sizeof policy, tree, sizeof tree, work, compile_words, &bytes, &cost, &nodes);
+    number = claspwillow_compile(CLASPWILLOW_SEGWIT_V0, policy, sizeof policy, tree, sizeof tree, work, compile_words, &bytes, &cost, &never,
+                                 &nodes);
     printf("the whole case: number %u, tree", (unsigned)number);
     for (i = 0; i < bytes; i++) {
         printf(" %02X", (unsigned)tree[i]);
     }
-    printf(", cost bits %016llX, %u nodes", (unsigned long long)cost, (unsigned)nodes);
+    if (never == 1) {
+        printf(", cost never");
+    } else {
+        printf(", cost bits %016llX", (unsigned long long)cost);
+    }
+    printf(", %u nodes", (unsigned)nodes);
     if (number == CLASPWILLOW_DONE) {
         number = claspwillow_check(CLASPWILLOW_SEGWIT_V0, tree, bytes, work, check_words, &ty);
         printf("; its check: number %u, type %u", (unsigned)number, (unsigned)ty);

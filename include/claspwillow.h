@@ -45,10 +45,11 @@ enum {
 };
 
 /* Compiles a policy. Writes the records of its tree to the front of `out`, and gives how many bytes they are in *bytes, the bits of the tree's
- * cost (a double) in *cost and the nodes used in *nodes. On a refusal all three are 0 and `out` is as it was.
+ * cost (a double) in *cost and the nodes used in *nodes. Where no witness satisfies the tree, *never is 1 and *cost 0; else *never is 0. On a
+ * refusal all four are 0 and `out` is as it was.
  * `work` is lent: claspwillow_compile_work() words, of any content; they are all zero afterwards, whatever the call gives. */
 uint32_t claspwillow_compile(uint32_t context, const uint8_t *policy, uint64_t policy_len, uint8_t *out, uint64_t out_len, uint64_t *work,
-                             uint64_t work_len, uint64_t *bytes, uint64_t *cost, uint64_t *nodes);
+                             uint64_t work_len, uint64_t *bytes, uint64_t *cost, uint32_t *never, uint64_t *nodes);
 
 /* The one length of `work`, in words, that claspwillow_compile takes. */
 uint64_t claspwillow_compile_work(void);

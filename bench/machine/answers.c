@@ -88,7 +88,7 @@ static uint64_t read_number(uint32_t *at, unsigned base) {
     while (digit(list[*at]) < base) {
         number = number * base + digit(list[(*at)++]);
     }
-    (*at)++;
+    *at += list[*at] == '-' ? 2 : 1;
     return number;
 }
 
@@ -140,14 +140,17 @@ static void answer(uint32_t *at, uint32_t line) {
     const uint64_t length = read_bytes(at, policy);
     const uint32_t number = (uint32_t)read_number(at, 10);
     const uint64_t bytes = read_bytes(at, wanted);
+    const uint32_t never = list[*at] == '-';
     const uint64_t cost = read_number(at, 16);
     const uint64_t nodes = read_number(at, 10);
     const uint64_t words = claspwillow_compile_work(), room = bytes + line % 64;
     const uint64_t stain = lend(words, room);
     _Alignas(8) uint64_t got_bytes = stain, got_cost = stain, got_nodes = stain;
-    const uint32_t got = claspwillow_compile(context, policy, length, out, room, work, words, &got_bytes, &got_cost, &got_nodes);
+    uint32_t got_never = (uint32_t)stain;
+    const uint32_t got =
+        claspwillow_compile(context, policy, length, out, room, work, words, &got_bytes, &got_cost, &got_never, &got_nodes);
     answers++;
-    if (got != number || got_bytes != bytes || got_cost != cost || got_nodes != nodes || !same(out, wanted, bytes)) {
+    if (got != number || got_bytes != bytes || got_cost != cost || got_never != never || got_nodes != nodes || !same(out, wanted, bytes)) {
         differ("another answer", line);
     } else if (!left_well(stain, words, room, bytes)) {
         differ("memory is not left as it must be", line);
@@ -189,14 +192,14 @@ static void expect(uint32_t got, uint32_t number, const char *what) {
 static void long_lengths(void) {
     const uint64_t far = (uint64_t)1 << 32, words = claspwillow_compile_work();
     _Alignas(8) uint64_t bytes, cost, nodes;
-    uint32_t ty;
+    uint32_t never, ty;
     const uint32_t context = CLASPWILLOW_SEGWIT_V0;
     for (uint32_t i = 0; i < 8 * 65; i++) {
         policy[i] = (const uint8_t[]){8, 0, 3, 0, 7, 0, 0, 0}[i % 8];
     }
-    expect(claspwillow_compile(context, policy, far + 8, out, ROOM, work, words, &bytes, &cost, &nodes), CLASPWILLOW_POLICY_TOO_LARGE,
+    expect(claspwillow_compile(context, policy, far + 8, out, ROOM, work, words, &bytes, &cost, &never, &nodes), CLASPWILLOW_POLICY_TOO_LARGE,
            "a policy of 2^32 + 8 bytes");
-    expect(claspwillow_compile(context, policy, 8, out, far, work, words, &bytes, &cost, &nodes), CLASPWILLOW_DONE, "room of 2^32 bytes");
+    expect(claspwillow_compile(context, policy, 8, out, far, work, words, &bytes, &cost, &never, &nodes), CLASPWILLOW_DONE, "room of 2^32 bytes");
     for (uint32_t i = 0; i < 4 * 4097; i++) {
         wanted[i] = (const uint8_t[]){4, 0, 33, 0}[i % 4];
     }

@@ -135,7 +135,8 @@ static void conjunctions(void) {
 
 static void compile(void) {
     _Alignas(8) uint64_t bytes, cost, nodes;
-    result = claspwillow_compile(context, input, length, out, ROOM, work, claspwillow_compile_work(), &bytes, &cost, &nodes);
+    uint32_t never;
+    result = claspwillow_compile(context, input, length, out, ROOM, work, claspwillow_compile_work(), &bytes, &cost, &never, &nodes);
 }
 
 static void check(void) {

@@ -246,12 +246,59 @@ fn unsafe_roots() -> Vec<Policy> {
     ]
 }
 
+/// Tapscript's roots that no witness satisfies: two parts that can't be satisfied cost more than the largest f64.
+fn nevers() -> Vec<Case> {
+    let no = || Policy::Unsatisfiable;
+    let list = [
+        and(no(), no()),
+        and(no(), and(key(1), no())),
+        and(and(key(1), no()), and(no(), leaf(SHA256, 1))),
+        and(and(leaf(AFTER, 9), no()), no()),
+        and(thresh(1, vec![no()]), or(1, no(), 1, and(key(1), no()))),
+        or(1, and(no(), no()), 1, and(no(), no())),
+        thresh(2, vec![no(), no()]),
+        thresh(3, vec![no(), key(1), no()]),
+        thresh(1, vec![and(no(), no())]),
+        thresh(2, vec![and(no(), no()), key(1)]),
+    ];
+    list.iter().map(|policy| (1, policy.bytes())).collect()
+}
+
+/// Thresholds of which a child, as E and as W, costs never: alone, first, last, and beside another.
+fn never_children() -> Vec<Case> {
+    let never = || and(Policy::Unsatisfiable, Policy::Unsatisfiable);
+    let list = [
+        thresh(1, vec![never()]),
+        thresh(1, vec![never(), key(1)]),
+        thresh(1, vec![key(1), never()]),
+        thresh(2, vec![key(1), never(), key(2)]),
+        thresh(2, vec![never(), key(1), never()]),
+        thresh(1, vec![never(), never()]),
+        thresh(2, vec![never(), never(), never()]),
+        and(key(3), thresh(1, vec![never(), key(1), and(key(2), key(4))])),
+    ];
+    list.iter().map(|policy| (1, policy.bytes())).collect()
+}
+
 /// The first `count` random cases with a property.
 fn found(seed: u64, records: usize, count: usize, test: Test) -> Vec<Case> {
     let mut random = Random::new(seed);
     let mut list = Vec::new();
     while list.len() < count {
         let case = Maker::new(&mut random).case(records);
+        if answer(case.0, &case.1).is_ok_and(|(answer, counts)| test(&answer, &counts)) {
+            list.push(case);
+        }
+    }
+    list
+}
+
+/// The first `count` Tapscript policies with a property, each made around a random one of up to 6 records.
+fn around(seed: u64, count: usize, wrap: fn(Policy) -> Policy, test: Test) -> Vec<Case> {
+    let mut random = Random::new(seed);
+    let mut list = Vec::new();
+    while list.len() < count {
+        let case = (1, wrap(Maker::new(&mut random).policy(6, 8)).bytes());
         if answer(case.0, &case.1).is_ok_and(|(answer, counts)| test(&answer, &counts)) {
             list.push(case);
         }
@@ -322,6 +369,13 @@ pub fn run(out: &mut impl Write) -> Result<(), String> {
     part(out, "refused with 12: the cheapest root is not safe", &policies(unsafe_roots()), refused_with!(12))?;
     part(out, "an infinite cost is compared", &found(100, 10, 60, |_, counts| counts.infinite), |_, counts| counts.infinite)?;
     part(out, "done, after an infinite cost", &found(101, 10, 40, |a, c| c.infinite && a.number == 0), refused_with!(0))?;
+    part(out, "the root costs never: two parts that can't be satisfied", &nevers(), |answer, _| answer.never)?;
+    let without_witness = |x| and(and(x, Policy::Unsatisfiable), Policy::Unsatisfiable);
+    part(out, "the root costs never, around random policies", &around(109, 10, without_witness, |answer, _| answer.never), |answer, _| answer.never)?;
+    part(out, "never against never in a Thresh's choice of its E", &never_children(), |_, counts| counts.never_both)?;
+    let never_both: Test = |answer, counts| answer.number == 0 && counts.never_both;
+    let beside_never = |x| thresh(1, vec![and(Policy::Unsatisfiable, Policy::Unsatisfiable), x]);
+    part(out, "done, after never against never in a Thresh's choice, around random policies", &around(110, 10, beside_never, never_both), never_both)?;
     let hits: Test = |answer, counts| answer.number == 0 && counts.hits > 20;
     part(out, "tables are remembered and met again more than 20 times", &found(102, 12, 60, hits), hits)?;
     let large = policies(wide().to_vec());

@@ -5,7 +5,7 @@ use std::collections::BTreeSet;
 use crate::answers::STORED;
 use crate::oracle;
 use crate::policies::{damaged, thresholds, Maker};
-use crate::port;
+use crate::port::{self, Results};
 use crate::random::Random;
 use crate::records::{from_hex, to_hex};
 
@@ -17,17 +17,23 @@ const FENCE: usize = 16;
 const FENCE_WORD: u64 = 0xFEED_FACE_CAFE_BEEF;
 const FENCE_BYTE: u8 = 0xA5;
 
-/// What a call is to give: the number, the bytes, the bits of the cost and the nodes.
+/// What a call is to give: the number, the bytes, the bits of the cost, whether it is never, and the nodes.
 #[derive(Clone, PartialEq)]
 struct Wanted {
     number: u32,
     output: Vec<u8>,
     cost: u64,
+    never: bool,
     nodes: u64,
 }
 
 fn refused(number: u32) -> Wanted {
-    Wanted { number, output: Vec::new(), cost: 0, nodes: 0 }
+    Wanted { number, output: Vec::new(), cost: 0, never: false, nodes: 0 }
+}
+
+fn shown(results: &Results) -> String {
+    let Results { bytes, cost, never, nodes } = results;
+    format!("{bytes} bytes, cost {cost:016X}, never {never}, {nodes} nodes")
 }
 
 /// The memory that is lent, kept from call to call: each call finds the dirt of another.
@@ -44,19 +50,13 @@ fn call(lent: &mut Lent, dirt: u64, context: u32, policy: &[u8], room: usize, wo
     lent.out.clear();
     lent.out.resize(room, dirt as u8);
     lent.out.resize(room + FENCE, FENCE_BYTE);
-    let mut results = [dirt; 3];
+    let mut results = Results { bytes: dirt, cost: dirt, never: dirt as u32, nodes: dirt };
     let number = port::compile(context, policy, &mut lent.out[..room], &mut lent.work[..words], &mut results);
     let case = || format!("context {context}, room {room}, work {words}, policy {}", to_hex(policy));
     let bytes = wanted.output.len();
-    if number != wanted.number || results != [bytes as u64, wanted.cost, wanted.nodes] {
-        let [b, c, n] = results;
-        return Err(format!(
-            "{}: the Rust gives {}, {bytes} bytes, cost {:016X}, {} nodes, the port {number}, {b} bytes, cost {c:016X}, {n} nodes",
-            case(),
-            wanted.number,
-            wanted.cost,
-            wanted.nodes
-        ));
+    let right = Results { bytes: bytes as u64, cost: wanted.cost, never: u32::from(wanted.never), nodes: wanted.nodes };
+    if number != wanted.number || results != right {
+        return Err(format!("{}: the Rust gives {}, {}, the port {number}, {}", case(), wanted.number, shown(&right), shown(&results)));
     }
     if lent.out[..bytes] != wanted.output[..] {
         return Err(format!("{}: the Rust writes {}, the port {}", case(), to_hex(&wanted.output), to_hex(&lent.out[..bytes])));
@@ -133,8 +133,8 @@ fn stored(line: &str) -> Option<(u32, Vec<u8>, Wanted)> {
     let words: Vec<&str> = line.split(' ').collect();
     let [context, policy, number, output, cost, nodes] = words[..] else { return None };
     let bytes = |word: &str| if word == "-" { Some(Vec::new()) } else { from_hex(word) };
-    let wanted =
-        Wanted { number: number.parse().ok()?, output: bytes(output)?, cost: u64::from_str_radix(cost, 16).ok()?, nodes: nodes.parse().ok()? };
+    let (cost, never) = if cost == "-" { (0, true) } else { (u64::from_str_radix(cost, 16).ok()?, false) };
+    let wanted = Wanted { number: number.parse().ok()?, output: bytes(output)?, cost, never, nodes: nodes.parse().ok()? };
     Some((context.parse().ok()?, bytes(policy)?, wanted))
 }
 
@@ -175,7 +175,13 @@ pub fn run(seed: u64, count: u64, records: usize) -> bool {
         match oracle::answer(context, &policy) {
             Ok((answer, counts)) => {
                 infinite += u64::from(counts.infinite);
-                let wanted = Wanted { number: answer.number, output: answer.output, cost: answer.cost, nodes: answer.nodes as u64 };
+                let wanted = Wanted {
+                    number: answer.number,
+                    output: answer.output,
+                    cost: answer.cost,
+                    never: answer.never,
+                    nodes: answer.nodes as u64,
+                };
                 let outcome = differs(&mut lent, &mut random, context, &policy, &wanted);
                 tally.count(wanted.number, outcome);
             }

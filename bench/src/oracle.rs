@@ -1,4 +1,4 @@
-//! The number, output, cost bits and nodes that compile must give, as the Rust has them.
+//! The number, output, cost bits, flag of never and nodes that compile must give, as the Rust has them.
 
 use std::any::Any;
 use std::cell::Cell;
@@ -24,19 +24,23 @@ const TOP_LEVEL_NON_SAFE: u32 = 12;
 pub struct Answer {
     pub number: u32,
     pub output: Vec<u8>,
+    /// The bits of the cost, 0 where it is never.
     pub cost: u64,
+    /// Whether the Rust's cost is infinite.
+    pub never: bool,
     pub nodes: usize,
 }
 
 impl Answer {
     fn refused(number: u32) -> Self {
-        Answer { number, output: vec![], cost: 0, nodes: 0 }
+        Answer { number, output: vec![], cost: 0, never: false, nodes: 0 }
     }
 }
 
 impl fmt::Display for Answer {
     fn fmt(&self, f: &mut fmt::Formatter) -> fmt::Result {
-        write!(f, "{} {} {:016X} {}", self.number, to_hex(&self.output), self.cost, self.nodes)
+        let cost = if self.never { "-".to_string() } else { format!("{:016X}", self.cost) };
+        write!(f, "{} {} {cost} {}", self.number, to_hex(&self.output), self.nodes)
     }
 }
 
@@ -56,6 +60,15 @@ pub fn answer(context: u32, policy: &[u8]) -> Result<(Answer, Counts), String> {
 /// What one copy of the compiler gave: a tree's records, or document 01's number.
 type Chosen = Result<Vec<u8>, u32>;
 
+/// What is told of a cost: its bits and the flag of never.
+fn told(cost: f64) -> (u64, bool) {
+    if cost == f64::INFINITY {
+        (0, true)
+    } else {
+        (cost.to_bits(), false)
+    }
+}
+
 /// Runs the three copies. The counted one goes first: where it refuses for room or NotACost, the others might not end and are not run.
 fn searched<Ctx: ScriptContext>(policy: &Concrete<Key>) -> Result<(Answer, Counts), String> {
     let counted = number_of(guarded(|| counted::best_compilation::<Key, Ctx>(policy)).map(|r| r.map_err(|e| counted_error(&e))))?;
@@ -71,9 +84,9 @@ fn searched<Ctx: ScriptContext>(policy: &Concrete<Key>) -> Result<(Answer, Count
     let plain = records_of(number_of(guarded(|| compiler::best_compilation::<Key, Ctx>(policy)).map(|r| r.map_err(|e| compiler_error(&e))))?);
     let costed =
         number_of(guarded(|| costed::best_compilation_with_cost::<Key, Ctx>(policy)).map(|r| r.map_err(|e| costed_error(&e))))?;
-    let cost = match &costed {
-        Ok((_, cost)) => cost.to_bits(),
-        Err(_) => 0,
+    let (cost, never) = match &costed {
+        Ok((_, cost)) => told(*cost),
+        Err(_) => (0, false),
     };
     let costed = records_of(costed.map(|(tree, _)| tree));
     if plain != counted || plain != costed {
@@ -85,7 +98,7 @@ fn searched<Ctx: ScriptContext>(policy: &Concrete<Key>) -> Result<(Answer, Count
         ));
     }
     let answer = match plain {
-        Ok(output) => Answer { number: 0, output, cost, nodes: counts.accepted + 2 },
+        Ok(output) => Answer { number: 0, output, cost, never, nodes: counts.accepted + 2 },
         Err(number) => Answer::refused(number),
     };
     Ok((answer, counts))

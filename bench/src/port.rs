@@ -17,6 +17,7 @@ extern "C" {
         work_len: u64,
         bytes: *mut u64,
         cost: *mut u64,
+        never: *mut u32,
         nodes: *mut u64,
     ) -> u32;
     fn claspwillow_compile_work() -> u64;
@@ -59,9 +60,18 @@ pub fn compile_work() -> usize {
     unsafe { claspwillow_compile_work() as usize }
 }
 
-/// The number, and the bytes, the cost bits and the nodes as the call left them in `results`.
-pub fn compile(context: u32, policy: &[u8], out: &mut [u8], work: &mut [u64], results: &mut [u64; 3]) -> u32 {
-    let [bytes, cost, nodes] = results;
+/// What compile gives besides its number and the output: the bytes, the bits of the cost, whether it is never, and the nodes.
+#[derive(Clone, Copy, PartialEq, Eq)]
+pub struct Results {
+    pub bytes: u64,
+    pub cost: u64,
+    pub never: u32,
+    pub nodes: u64,
+}
+
+/// The number; the results as the call left them.
+pub fn compile(context: u32, policy: &[u8], out: &mut [u8], work: &mut [u64], results: &mut Results) -> u32 {
+    let Results { bytes, cost, never, nodes } = results;
     // SAFETY: each slice is passed as its own pointer and length, and each result as a pointer to one word.
     unsafe {
         claspwillow_compile(
@@ -74,6 +84,7 @@ pub fn compile(context: u32, policy: &[u8], out: &mut [u8], work: &mut [u64], re
             work.len() as u64,
             bytes,
             cost,
+            never,
             nodes,
         )
     }

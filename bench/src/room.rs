@@ -32,10 +32,13 @@ pub struct Counts {
     pub popped: usize,
     /// Whether an infinite cost was compared.
     pub infinite: bool,
+    /// Whether a child of a Thresh costs infinity both as E and as W.
+    pub never_both: bool,
 }
 
 thread_local! {
-    static COUNTS: Cell<Counts> = const { Cell::new(Counts { accepted: 0, stored: 0, hits: 0, widest: 0, popped: 0, infinite: false }) };
+    static COUNTS: Cell<Counts> =
+        const { Cell::new(Counts { accepted: 0, stored: 0, hits: 0, widest: 0, popped: 0, infinite: false, never_both: false }) };
 }
 
 fn refuse(number: u32) -> ! {
@@ -66,6 +69,11 @@ pub fn compare(cost: f64) {
         refuse(10);
     }
     change(|counts| counts.infinite |= cost.is_infinite());
+}
+
+/// What a child of a Thresh costs as E and as W.
+pub fn gain(e: f64, w: f64) {
+    change(|counts| counts.never_both |= e.is_infinite() && w.is_infinite());
 }
 
 /// An acceptance into a table that holds `others` entries: TableFull, then NodesFull.

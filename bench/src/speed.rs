@@ -12,7 +12,7 @@ use crate::miniscript::context::{Segwitv0, Tap};
 use crate::oracle::{self, Answer};
 use crate::policies::{key, or, Maker};
 use crate::policy::{compiler, Concrete};
-use crate::port;
+use crate::port::{self, Results};
 use crate::random::Random;
 use crate::records::{read_policy, to_hex, u16_at};
 use crate::room::Counts;
@@ -133,6 +133,9 @@ fn rust(case: &Case) -> u64 {
     }
 }
 
+/// Results that no call has written yet.
+const NOTHING: Results = Results { bytes: 0, cost: 0, never: 0, nodes: 0 };
+
 /// The memory that the port is lent.
 struct Lent {
     work: Vec<u64>,
@@ -142,10 +145,12 @@ struct Lent {
 /// Nanoseconds of the port, which must give what the Rust gives.
 fn ported(case: &Case, lent: &mut Lent, dirt: u64) -> Result<u64, String> {
     lent.work.fill(dirt);
-    let (mut number, mut results) = (0, [0; 3]);
+    let (mut number, mut results) = (0, NOTHING);
     let took = timed(|| number = port::compile(case.context, &case.bytes, &mut lent.out, &mut lent.work, &mut results));
     let wanted = &case.answer;
-    if (number, results) != (wanted.number, [wanted.output.len() as u64, wanted.cost, wanted.nodes as u64])
+    let told = Results { bytes: wanted.output.len() as u64, cost: wanted.cost, never: u32::from(wanted.never), nodes: wanted.nodes as u64 };
+    if number != wanted.number
+        || results != told
         || lent.out[..wanted.output.len()] != wanted.output[..]
     {
         return Err(format!("the port and the Rust differ on context {}, policy {}", case.context, to_hex(&case.bytes)));
@@ -167,7 +172,7 @@ fn clearing(lent: &mut Lent) -> u64 {
     let policy = key(7).bytes();
     let once = |lent: &mut Lent| {
         lent.work.fill(0x0123_4567_89AB_CDEF);
-        timed(|| port::compile(2, &policy, &mut lent.out, &mut lent.work, &mut [0; 3]))
+        timed(|| port::compile(2, &policy, &mut lent.out, &mut lent.work, &mut { NOTHING }))
     };
     median((0..5 * ROUNDS).map(|_| once(lent)).collect())
 }

@@ -6,6 +6,7 @@ use Rattle.types.specs.declared.«Type».{«Type»}
 use Rattle.figures.specs.declared.ExtData.{ExtData}
 use Rattle.costs.specs.declared.Cost.{Cost}
 use Rattle.costs.specs.declared.DissatProb.{DissatProb}
+use Rattle.costs.specs.declared.Price.{Price}
 use Rattle.costs.specs.Cost1d.{cost1d}
 use Rattle.candidates.specs.declared.Candidate.{Candidate}
 
@@ -15,5 +16,5 @@ candidate kind first second third t e c =
     record { kind = kind; first = first; second = second; third = third; ty = t; ext = e; cost = c }
 
 -- the cost at the probabilities of satisfaction and of dissatisfaction
-abbrev pub costAt : Candidate → Float → DissatProb → Float
+abbrev pub costAt : Candidate → Float → DissatProb → Price
 costAt x satProb dissatProb = cost1d (x .ext .«pk_cost») (x .cost) satProb dissatProb

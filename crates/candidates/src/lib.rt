@@ -14,6 +14,7 @@ ghost use Rattle.candidates.specs.Pairs.{andB, andV, orB, orD, orC, orI,
 use costs::Cost;
 use costs::Costed;
 use costs::DissatProb;
+use costs::Price;
 use costs::SigType;
 use costs::cost_1d;
 use figures::ExtData;
@@ -655,7 +656,7 @@ impl Candidate {
     }
 
     // What this costs at the probabilities of satisfaction and of dissatisfaction.
-    pub fn cost_at(self, sat_prob: f64, dissat_prob: DissatProb) -> f64
+    pub fn cost_at(self, sat_prob: f64, dissat_prob: DissatProb) -> Price
         requires { ⌜ Small (self .ext) ⌝ }
         ensures { λ r. ⌜ r ≡ costAt self «sat_prob» «dissat_prob» ⌝ }
     {

@@ -10,7 +10,8 @@ use lib.Ieee.{Float, inf, lt, binary64, div, ofBits}
 use lib.ListN.{length, getD, take, drop, set, drop-of-length-le}
 use lib.Seq.{length-take-le, drop-cons, getD-take, take-set-lt}
 use Rattle.writing.specs.WellFormed.{AllBelow}
-use Rattle.costs.specs.Arithmetic.{_⊖_}
+use Rattle.costs.specs.declared.Price.{Price}
+use Rattle.costs.specs.Price.{excess}
 use Rattle.definition.specs.Candidates.{Candidate}
 use Rattle.definition.specs.Tables.{Probs, Table, costAt}
 use Rattle.definition.specs.Search.{Best, mostGaining, nth, othersAsW, arranged}
@@ -86,11 +87,11 @@ module _ {m : List ℕ} {p : Probs} {es ws : List ℕ} {n best : ℕ} {least : F
     ws-at = rw (getD-take n ws i 0 l) at (below-at (nodeCount m) (take n ws) i (h .ws-below) (omega (arith, ws-count)))
 
     module _ {d : Float} (is : d ≡ gainAt m p (getD es i 0) (getD ws i 0)) where
-      gain-seen : (pol : List ℕ) → costAt p (first pol .e) ⊖ costAt p (first pol .w) ≡ d
+      gain-seen : (pol : List ℕ) → excess (costAt p (first pol .e)) (costAt p (first pol .w)) ≡ d
       unfolding first
       gain-seen pol =
-          ap (λ (x : Float). x ⊖ costAt p (seen pol m (getD ws i 0))) (seen-price pol m p (getD es i 0) es-at)
-          ∙ ap (λ (y : Float). priceAt m p (getD es i 0) ⊖ y) (seen-price pol m p (getD ws i 0) ws-at)
+          ap (λ (x : Price). excess x (costAt p (seen pol m (getD ws i 0)))) (seen-price pol m p (getD es i 0) es-at)
+          ∙ ap (λ (y : Price). excess (priceAt m p (getD es i 0)) y) (seen-price pol m p (getD ws i 0) ws-at)
           ∙ sym is
 
       pub gaining-gains : lt d least ≡ true → {b : ℕ} {f : Float} → b ≡ i → f ≡ d → Gaining m p es ws n b f (i + 1)

@@ -8,7 +8,8 @@ use native.Mathlib.Omega.{arith}
 use lib.ListN.{length, getD, drop}
 use lib.Seq.{drop-cons, drop-length}
 use lib.Ieee.{Float}
-use Rattle.words.specs.Floats.{costLe}
+use Rattle.costs.specs.declared.Price.{Price}
+use Rattle.costs.specs.Price.{atMost}
 use Rattle.figures.specs.Bounds.{Small}
 use Rattle.costs.specs.declared.DissatProb.{DissatProb}
 use Rattle.types.specs.declared.«Type».{«Type»}
@@ -37,21 +38,21 @@ use Rattle.choice.proofs.Below.{seen-price}
 pub node-small : (m : List ℕ) (e : ℕ) {x : code.Candidate} → x ≡ nodeAt m e → Small (x .ext)
 node-small m e is = rw is (small-at m e)
 
-pub price-is : (m : List ℕ) (e : ℕ) (sat : Float) (dissat : DissatProb) {x : code.Candidate} {r : Float} → x ≡ nodeAt m e
+pub price-is : (m : List ℕ) (e : ℕ) (sat : Float) (dissat : DissatProb) {x : code.Candidate} {r : Price} → x ≡ nodeAt m e
     → r ≡ code-cost x sat dissat → r ≡ priceAt m (probs sat dissat) e
 price-is m e sat dissat is cost = cost ∙ ap (λ (y : code.Candidate). code-cost y sat dissat) is
 
 module _ (m : List ℕ) (p : Probs) (e : ℕ) where
-  pub cheaper-first : {best : Chosen} (y : ℕ) {own other : Float} {t : Bool} → best ≡ At y → own ≡ priceAt m p e → other ≡ priceAt m p y
-      → t ≡ costLe own other → t ≡ true → At e ≡ cheaperAt m p e best
+  pub cheaper-first : {best : Chosen} (y : ℕ) {own other : Price} {t : Bool} → best ≡ At y → own ≡ priceAt m p e → other ≡ priceAt m p y
+      → t ≡ atMost own other → t ≡ true → At e ≡ cheaperAt m p e best
   cheaper-first y best own other test first =
-      let same : true ≡ costLe (priceAt m p e) (priceAt m p y) = cc in
+      let same : true ≡ atMost (priceAt m p e) (priceAt m p y) = cc in
       rw (best, sym same)
 
-  pub cheaper-second : {best : Chosen} (y : ℕ) {own other : Float} {t : Bool} → best ≡ At y → own ≡ priceAt m p e → other ≡ priceAt m p y
-      → t ≡ costLe own other → t ≡ false → At y ≡ cheaperAt m p e best
+  pub cheaper-second : {best : Chosen} (y : ℕ) {own other : Price} {t : Bool} → best ≡ At y → own ≡ priceAt m p e → other ≡ priceAt m p y
+      → t ≡ atMost own other → t ≡ false → At y ≡ cheaperAt m p e best
   cheaper-second y best own other test first =
-      let same : false ≡ costLe (priceAt m p e) (priceAt m p y) = cc in
+      let same : false ≡ atMost (priceAt m p e) (priceAt m p y) = cc in
       rw (best, sym same)
 
   module _ (want : Want) (best : Chosen) {x : code.Candidate} {t : Bool} where
@@ -84,7 +85,7 @@ module _ (m : List ℕ) (p : Probs) where
 
   cheaper-node : (e : ℕ) (r : Chosen) → e < nodeCount m → IsNode r → IsNode (cheaperAt m p e r)
   cheaper-node e Missing l h = l
-  cheaper-node e (At y) l h = node-if (costLe (priceAt m p e) (priceAt m p y)) (At e) (At y) l h
+  cheaper-node e (At y) l h = node-if (atMost (priceAt m p e) (priceAt m p y)) (At e) (At y) l h
 
   best-node : (want : Want) (es : List ℕ) → AllBelow (nodeCount m) es → IsNode (bestOf m p want es)
   unfolding bestOf AllBelow
@@ -115,10 +116,10 @@ module _ (m : List ℕ) (p : Probs) where
     cheaper-seen e (At y) l h =
         let own : costAt p (seen pol m e) ≡ priceAt m p e = seen-price pol m p e l in
         let other : costAt p (seen pol m y) ≡ priceAt m p y = seen-price pol m p y h in
-        let same : costLe (costAt p (seen pol m e)) (costAt p (seen pol m y)) ≡ costLe (priceAt m p e) (priceAt m p y) = cc in
+        let same : atMost (costAt p (seen pol m e)) (costAt p (seen pol m y)) ≡ atMost (priceAt m p e) (priceAt m p y) = cc in
         ap (λ (b : Bool). some (cond b (seen pol m e) (seen pol m y))) same
-        ∙ some-if (costLe (priceAt m p e) (priceAt m p y)) (seen pol m e) (seen pol m y)
-        ∙ seen-if (costLe (priceAt m p e) (priceAt m p y)) (some (seen pol m e)) (some (seen pol m y)) (At e) (At y) refl refl
+        ∙ some-if (atMost (priceAt m p e) (priceAt m p y)) (seen pol m e) (seen pol m y)
+        ∙ seen-if (atMost (priceAt m p e) (priceAt m p y)) (some (seen pol m e)) (some (seen pol m y)) (At e) (At y) refl refl
 
     best-seen : (want : Want) (es : List ℕ) → AllBelow (nodeCount m) es
         → cheapest p (suitsWant want) (seenAll pol m es) ≡ chosenSeen pol m (bestOf m p want es)

@@ -8,7 +8,7 @@ use Prim.Native.Nat.{ℕ, _<_, _≤_}
 use lib.Ieee.{Float, inf}
 use lib.ListN.{take}
 use Rattle.writing.specs.WellFormed.{AllBelow}
-use Rattle.costs.specs.Arithmetic.{_⊖_}
+use Rattle.costs.specs.Price.{excess}
 use Rattle.definition.specs.Tables.{Probs}
 use Rattle.definition.specs.Search.{Best, mostGaining, arranged}
 use Rattle.nodes.specs.Views.{seen, seenAll}
@@ -20,9 +20,9 @@ bestsOf pol m [] ws = []
 bestsOf pol m (e ∷ es) [] = []
 bestsOf pol m (e ∷ es) (w ∷ ws) = record { e = seen pol m e; w = seen pol m w } ∷ bestsOf pol m es ws
 
--- how much more a child costs as E than as W
+-- by how much a child costs more as E than as W
 abbrev pub gainAt : List ℕ → Probs → (e w : ℕ) → Float
-gainAt m p e w = priceAt m p e ⊖ priceAt m p w
+gainAt m p e w = excess (priceAt m p e) (priceAt m p w)
 
 -- the child that gains most, of those that two lists name
 pub record Gains (m : List ℕ) (p : Probs) (es ws : List ℕ) (n r : ℕ) : Type 0 where

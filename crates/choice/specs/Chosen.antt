@@ -5,8 +5,8 @@ use mathlib.Core.List.{List}
 use mathlib.Core.Option.{Option, none, some}
 use mathlib.Core.Path.{_≡_}
 use Prim.Native.Nat.{ℕ, _<_}
-use lib.Ieee.{Float}
-use Rattle.words.specs.Floats.{costLe}
+use Rattle.costs.specs.declared.Price.{Price}
+use Rattle.costs.specs.Price.{atMost}
 use Rattle.correctness.specs.declared.Base.{Base}
 use Rattle.correctness.specs.declared.Base.the-variants.{B, W}
 use Rattle.types.specs.declared.«Type».{«Type»}
@@ -50,13 +50,13 @@ suitsType Want.E t = suitsAs B t
 suitsType Want.W t = suitsAs W t
 suitsType Want.Root t = baseEq (t .corr .base) B
 
-abbrev pub priceAt : List ℕ → Probs → ℕ → Float
+abbrev pub priceAt : List ℕ → Probs → ℕ → Price
 priceAt m p e = code.costAt (nodeAt m e) (p .sat) (p .dissat)
 
 -- an entry before others of which the best is known
 abbrev pub cheaperAt : List ℕ → Probs → ℕ → Chosen → Chosen
 cheaperAt m p e Missing = At e
-cheaperAt m p e (At y) = cond (costLe (priceAt m p e) (priceAt m p y)) (At e) (At y)
+cheaperAt m p e (At y) = cond (atMost (priceAt m p e) (priceAt m p y)) (At e) (At y)
 
 abbrev pub nextAt : List ℕ → Probs → Want → ℕ → Chosen → Chosen
 nextAt m p want e best = cond (suitsType want (nodeAt m e .ty)) (cheaperAt m p e best) best

@@ -25,6 +25,7 @@ use correctness::Base;
 use costs::Cost;
 use costs::Costed;
 use costs::DissatProb;
+use costs::Price;
 use figures::ExtData;
 use contexts::Context;
 use types::Type;
@@ -87,7 +88,7 @@ fn suits(want: Want, ty: Type) -> bool
 }
 
 // What node e costs at these probabilities.
-fn price(work: &[u64], e: u16, sat: f64, dissat: DissatProb) -> f64
+pub fn price(work: &[u64], e: u16, sat: f64, dissat: DissatProb) -> Price
     requires { ⌜ length (now work) ≡ workWords ⌝ }
     ensures { λ r. ⌜ r ≡ priceAt (now (work .entry)) (probs sat dissat) e ⌝ }
 {
@@ -105,7 +106,7 @@ fn cheaper(work: &[u64], e: u16, best: Chosen, sat: f64, dissat: DissatProb) -> 
         Chosen::At(y) => {
             let own = price(work, e, sat, dissat);
             let other = price(work, y, sat, dissat);
-            if words::cost_le(own, other) {
+            if own.at_most(other) {
                 Chosen::At(e)
             } else {
                 Chosen::At(y)
@@ -143,14 +144,14 @@ pub fn choose(work: &[u64], s: u16, sat: f64, dissat: DissatProb, want: Want) ->
     best
 }
 
-// How much more node e costs than node w.
+// By how much node e costs more than node w.
 fn gain(work: &[u64], e: u16, w: u16, sat: f64, dissat: DissatProb) -> f64
     requires { ⌜ length (now work) ≡ workWords ⌝ }
     ensures { λ r. ⌜ r ≡ gainAt (now (work .entry)) (probs sat dissat) e w ⌝ }
 {
     let own = price(work, e, sat, dissat);
     let other = price(work, w, sat, dissat);
-    own - other
+    own.excess(other)
 }
 
 // Of n children, chosen as E and as W, the first that gains most by being the E.

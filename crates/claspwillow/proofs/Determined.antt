@@ -7,11 +7,12 @@ check-determined context tree work number number′ ty ty′ after after′ p q 
     (p .gives ∙ sym (q .gives), p .types ∙ sym (q .types), p .clears ∙ sym (q .clears))
 
 pub compile-determined : CompileDetermined
-compile-determined context policy out work number number′ left left′ bytes bytes′ cost cost′ nodes nodes′ after after′ p q = (
+compile-determined context policy out work number number′ left left′ bytes bytes′ cost cost′ never never′ nodes nodes′ after after′ p q = (
   p .gives ∙ sym (q .gives),
   p .writes ∙ sym (q .writes),
   p .counts ∙ sym (q .counts),
   p .costs ∙ sym (q .costs),
+  p .tells ∙ sym (q .tells),
   p .uses ∙ sym (q .uses),
   p .clears ∙ sym (q .clears),
 )

@@ -13,8 +13,8 @@ use Rattle.definition.specs.Refusals.{BadContext, BadWork}
 use Rattle.definition.specs.Compile.{Outcome, refusedWith, compileRead, compile}
 use Rattle.compile.specs.declared.Answer.{Answer}
 use Rattle.compile.specs.Answers.{Compiles, compiles, refuses}
-use Rattle.claspwillow.specs.Results.{givenIn, numberIn, bytesIn, costIn, nodesIn}
-use Rattle.claspwillow.specs.Promises.{numberOfOutcome, outputAfter, bytesWritten, costGiven, nodesUsed, given, CompilePromise}
+use Rattle.claspwillow.specs.Results.{givenIn, numberIn, bytesIn, costIn, neverIn, nodesIn}
+use Rattle.claspwillow.specs.Promises.{numberOfOutcome, outputAfter, bytesWritten, costGiven, neverGiven, nodesUsed, given, CompilePromise}
 
 -- ---- the context and the work memory
 
@@ -44,37 +44,42 @@ module _ (policy out work : List ℕ) where
 -- ---- the numbers of an answer
 
 pub number-told : {o : Outcome} {out left : List ℕ} {r : Answer} → Compiles o out left r → numberIn r ≡ numberOfOutcome o
-number-told (compiles bytes e n w) = ap numberOfOutcome (sym e)
+number-told (compiles bytes price e b f n w) = ap numberOfOutcome (sym e)
 number-told (refuses e w) = ap numberOfOutcome (sym e)
 
 pub output-told : {o : Outcome} {out left : List ℕ} {r : Answer} → Compiles o out left r → left ≡ outputAfter o out
-output-told {o} {out} (compiles bytes e n w) =
+output-told {o} {out} (compiles bytes price e b f n w) =
     w ∙ ap (λ (k : ℕ). bytes ++ drop k out) (sym n) ∙ ap (λ (x : Outcome). outputAfter x out) (sym e)
 output-told {o} {out} (refuses e w) = w ∙ ap (λ (x : Outcome). outputAfter x out) (sym e)
 
 pub bytes-told : {o : Outcome} {out left : List ℕ} {r : Answer} → Compiles o out left r → bytesIn r ≡ bytesWritten o
-bytes-told (compiles bytes e n w) = sym n ∙ ap bytesWritten (sym e)
+bytes-told (compiles bytes price e b f n w) = sym n ∙ ap bytesWritten (sym e)
 bytes-told (refuses e w) = ap bytesWritten (sym e)
 
 pub cost-told : {o : Outcome} {out left : List ℕ} {r : Answer} → Compiles o out left r → costIn r ≡ costGiven o
-cost-told (compiles bytes e n w) = ap costGiven (sym e)
+cost-told (compiles bytes price e b f n w) = b ∙ ap costGiven (sym e)
 cost-told (refuses e w) = ap costGiven (sym e)
 
+pub never-told : {o : Outcome} {out left : List ℕ} {r : Answer} → Compiles o out left r → neverIn r ≡ neverGiven o
+never-told (compiles bytes price e b f n w) = f ∙ ap neverGiven (sym e)
+never-told (refuses e w) = ap neverGiven (sym e)
+
 pub nodes-told : {o : Outcome} {out left : List ℕ} {r : Answer} → Compiles o out left r → nodesIn r ≡ nodesUsed o
-nodes-told (compiles bytes e n w) = ap nodesUsed (sym e)
+nodes-told (compiles bytes price e b f n w) = ap nodesUsed (sym e)
 nodes-told (refuses e w) = ap nodesUsed (sym e)
 
 -- all that the entry promises, from an answer and from work memory that was cleared
-pub promised : (context : ℕ) (policy out work worked : List ℕ) {left after : List ℕ} {r : Answer} {number bytes cost nodes : ℕ}
+pub promised : (context : ℕ) (policy out work worked : List ℕ) {left after : List ℕ} {r : Answer} {number bytes cost never nodes : ℕ}
     → Compiles (given context policy out work) out left r
-    → number ≡ numberIn r → bytes ≡ bytesIn r → cost ≡ costIn r → nodes ≡ nodesIn r
+    → number ≡ numberIn r → bytes ≡ bytesIn r → cost ≡ costIn r → never ≡ neverIn r → nodes ≡ nodesIn r
     → length worked ≡ length work → after ≡ zeroed worked
-    → CompilePromise context policy out work number left bytes cost nodes after
-promised context policy out work worked told number bytes cost nodes same cleared = record {
+    → CompilePromise context policy out work number left bytes cost never nodes after
+promised context policy out work worked told number bytes cost never nodes same cleared = record {
   gives = number ∙ number-told told;
   writes = output-told told;
   counts = bytes ∙ bytes-told told;
   costs = cost ∙ cost-told told;
+  tells = never ∙ never-told told;
   uses = nodes ∙ nodes-told told;
   clears = cleared ∙ ap (λ (n : ℕ). replicate n 0) same;
 }

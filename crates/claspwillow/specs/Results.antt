@@ -21,17 +21,21 @@ givenIn c policy out work =
 -- ---- the numbers in an answer
 
 abbrev pub numberIn : Answer → ℕ
-numberIn (Compiled bytes cost nodes) = 0
+numberIn (Compiled bytes cost never nodes) = 0
 numberIn (Refused n) = n
 
 abbrev pub bytesIn : Answer → ℕ
-bytesIn (Compiled bytes cost nodes) = bytes
+bytesIn (Compiled bytes cost never nodes) = bytes
 bytesIn (Refused n) = 0
 
 abbrev pub costIn : Answer → ℕ
-costIn (Compiled bytes cost nodes) = cost
+costIn (Compiled bytes cost never nodes) = cost
 costIn (Refused n) = 0
 
+abbrev pub neverIn : Answer → ℕ
+neverIn (Compiled bytes cost never nodes) = never
+neverIn (Refused n) = 0
+
 abbrev pub nodesIn : Answer → ℕ
-nodesIn (Compiled bytes cost nodes) = nodes
+nodesIn (Compiled bytes cost never nodes) = nodes
 nodesIn (Refused n) = 0

@@ -9,7 +9,7 @@ ghost use Rattle.trees.specs.Reading.{maxRecords};
 ghost use Rattle.trees.specs.TreeCheck.{contextOf};
 ghost use Rattle.trees.specs.Checked.{answerOf};
 ghost use Rattle.compile.specs.Answers.{Compiles};
-ghost use Rattle.claspwillow.specs.Results.{givenIn, numberIn, bytesIn, costIn, nodesIn};
+ghost use Rattle.claspwillow.specs.Results.{givenIn, numberIn, bytesIn, costIn, neverIn, nodesIn};
 ghost use Rattle.claspwillow.specs.Promises.{numberOf, typeNumber, CheckPromise, given, CompilePromise};
 use compile::Answer;
 use contexts::Context;
@@ -113,7 +113,7 @@ fn number_of(r: Answer) -> u32
     ensures { λ n. ⌜ n ≡ numberIn r ⌝ }
 {
     match r {
-        Answer::Compiled(_, _, _) => 0,
+        Answer::Compiled(_, _, _, _) => 0,
         Answer::Refused(n) => n as u32,
     }
 }
@@ -123,18 +123,28 @@ fn bytes_of(r: Answer) -> u64
     ensures { λ n. ⌜ n ≡ bytesIn r ⌝ }
 {
     match r {
-        Answer::Compiled(bytes, _, _) => bytes as u64,
+        Answer::Compiled(bytes, _, _, _) => bytes as u64,
         Answer::Refused(_) => NOT_GIVEN,
     }
 }
 
-// The bits of the cost of an answer of compile, 0 where it is a refusal.
+// The bits of the cost of an answer of compile, 0 where it is never and where it is a refusal.
 fn cost_of(r: Answer) -> u64
     ensures { λ n. ⌜ n ≡ costIn r ⌝ }
 {
     match r {
-        Answer::Compiled(_, cost, _) => cost,
+        Answer::Compiled(_, cost, _, _) => cost,
         Answer::Refused(_) => NOT_GIVEN,
+    }
+}
+
+// 1 where an answer of compile costs never, else 0.
+fn never_of(r: Answer) -> u32
+    ensures { λ n. ⌜ n ≡ neverIn r ⌝ }
+{
+    match r {
+        Answer::Compiled(_, _, never, _) => never,
+        Answer::Refused(_) => 0,
     }
 }
 
@@ -143,13 +153,13 @@ fn nodes_of(r: Answer) -> u64
     ensures { λ n. ⌜ n ≡ nodesIn r ⌝ }
 {
     match r {
-        Answer::Compiled(_, _, nodes) => nodes as u64,
+        Answer::Compiled(_, _, _, nodes) => nodes as u64,
         Answer::Refused(_) => NOT_GIVEN,
     }
 }
 
-// Compiles a policy: document 01's number, the records of the tree in `out`, and how many bytes they are, the bits of the tree's cost and the
-// nodes used, all three 0 on a refusal. Work memory is zero afterwards.
+// Compiles a policy: document 01's number, the records of the tree in `out`, and how many bytes they are, the bits of the tree's cost, whether
+// that is never (1, and then the bits are 0) and the nodes used, all four 0 on a refusal. Work memory is zero afterwards.
 #[no_mangle]
 pub extern "C" fn claspwillow_compile(
     context: u32,
@@ -158,14 +168,16 @@ pub extern "C" fn claspwillow_compile(
     work: &mut [u64],
     bytes: &mut u64,
     cost: &mut u64,
+    never: &mut u32,
     nodes: &mut u64,
 ) -> u32
-    ensures { λ n. ⌜ CompilePromise context (now (policy .entry)) (now (out .entry)) (now (work .entry)) n (now (out .exit)) (now (bytes .exit)) (now (cost .exit)) (now (nodes .exit)) (now (work .exit)) ⌝ }
+    ensures { λ n. ⌜ CompilePromise context (now (policy .entry)) (now (out .entry)) (now (work .entry)) n (now (out .exit)) (now (bytes .exit)) (now (cost .exit)) (now (never .exit)) (now (nodes .exit)) (now (work .exit)) ⌝ }
 {
     let r = compile_numbered(context, policy, out, work);
     words::clear(work);
     *bytes = bytes_of(r);
     *cost = cost_of(r);
+    *never = never_of(r);
     *nodes = nodes_of(r);
     number_of(r)
 }

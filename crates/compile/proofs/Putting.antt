@@ -9,7 +9,8 @@ use borrow.Author.Tests.{le-leb, leb-true}
 use lib.Dec.{leb}
 use lib.ListN.{length, drop}
 use Rattle.contexts.specs.declared.Context.{Context}
-use Rattle.words.specs.Floats.{wordOfFloat}
+use Rattle.costs.specs.declared.Price.{Price}
+use Rattle.costs.specs.Price.{costBits, neverFlag}
 use Rattle.trees.specs.Fragment.{Fragment}
 use Rattle.writing.specs.Writing.{size, bytesOfTree}
 use Rattle.policies.specs.Policy.{Policy}
@@ -37,11 +38,11 @@ use Rattle.compile.specs.Answers.{Compiles, Whole, Finds, Writable, IsRo
 
 -- ---- what is written
 
-fits-in : (t : Fragment) (room cost nodes : ℕ) → size t ≤ maxRecords → length (bytesOfTree t) ≤ room →
+fits-in : (t : Fragment) (room : ℕ) (cost : Price) (nodes : ℕ) → size t ≤ maxRecords → length (bytesOfTree t) ≤ room →
     fitting room t cost nodes ≡ compiled (bytesOfTree t) cost nodes
 fits-in t room cost nodes a b = rw (le-leb _ _ a, le-leb _ _ b)
 
-too-large : (t : Fragment) (room cost nodes : ℕ) → (maxRecords < size t) ⊎ (room < length (bytesOfTree t)) →
+too-large : (t : Fragment) (room : ℕ) (cost : Price) (nodes : ℕ) → (maxRecords < size t) ⊎ (room < length (bytesOfTree t)) →
     fitting room t cost nodes ≡ refusedWith OutputTooSmall
 too-large t room cost nodes (inl a) = by-first (leb (size t) maxRecords) refl
   where
@@ -55,31 +56,32 @@ too-large t room cost nodes (inr a) = by-both (leb (size t) maxRecords) (leb (le
     by-both true false e f = rw (e, f)
     by-both true true e f = absurd (omega (arith, leb-true (length (bytesOfTree t)) room f))
 
-module _ (t : Fragment) (out₀ out : List ℕ) (cost nodes : ℕ) where
-  put-all : {n : ℕ} → Wrote t out₀ out (Written.Bytes n) → Compiles (fitting (length out₀) t cost nodes) out₀ out (Answer.Compiled n cost nodes)
-  put-all (wrote few long room is) =
-      answers.compiles (bytesOfTree t) (fits-in t (length out₀) cost nodes few (omega (arith, long, room))) long is
+module _ (t : Fragment) (out₀ out : List ℕ) (price : Price) (nodes : ℕ) where
+  put-all : {n cost never : ℕ} → cost ≡ costBits price → never ≡ neverFlag price → Wrote t out₀ out (Written.Bytes n) →
+      Compiles (fitting (length out₀) t price nodes) out₀ out (Answer.Compiled n cost never nodes)
+  put-all bits flag (wrote few long room is) =
+      answers.compiles (bytesOfTree t) price (fits-in t (length out₀) price nodes few (omega (arith, long, room))) bits flag long is
 
-  put-none : Wrote t out₀ out Written.TooSmall → Compiles (fitting (length out₀) t cost nodes) out₀ out (Answer.Refused OutputTooSmall)
-  put-none (too-small why same) = answers.refuses (too-large t (length out₀) cost nodes why) same
+  put-none : Wrote t out₀ out Written.TooSmall → Compiles (fitting (length out₀) t price nodes) out₀ out (Answer.Refused OutputTooSmall)
+  put-none (too-small why same) = answers.refuses (too-large t (length out₀) price nodes why) same
 
 module _ {pol m : List ℕ} {e : ℕ} (h : Writable pol m e) (out₀ out : List ℕ) {w : Written}
     (wrote : Wrote (seen pol m e .tree) out₀ out w) where
-  pub puts : (n : ℕ) → w ≡ Written.Bytes n → {cost nodes : ℕ} → cost ≡ wordOfFloat (priceAt m rootProbs e) → nodes ≡ nodeCount m →
-      Compiles (fitting (length out₀) (seen pol m e .tree) (wordOfFloat (costAt rootProbs (seen pol m e))) (nodeCount m)) out₀ out
-      (Answer.Compiled n cost nodes)
-  puts n is {cost} {nodes} c k =
-      let price : wordOfFloat (costAt rootProbs (seen pol m e)) ≡ cost =
-      ap wordOfFloat (seen-price pol m rootProbs e (h .readable .there)) ∙ sym c in
-      subst (λ (x : ℕ). Compiles (fitting (length out₀) (seen pol m e .tree) x (nodeCount m)) out₀ out (Answer.Compiled n cost nodes)) (sym price)
-      (subst (λ (x : ℕ). Compiles (fitting (length out₀) (seen pol m e .tree) cost x) out₀ out (Answer.Compiled n cost nodes)) k
-      (put-all (seen pol m e .tree) out₀ out cost nodes (subst (λ (x : Written). Wrote (seen pol m e .tree) out₀ out x) is wrote)))
+  pub puts : (n : ℕ) → w ≡ Written.Bytes n → {price : Price} {cost never nodes : ℕ} → price ≡ priceAt m rootProbs e →
+      cost ≡ costBits price → never ≡ neverFlag price → nodes ≡ nodeCount m →
+      Compiles (fitting (length out₀) (seen pol m e .tree) (costAt rootProbs (seen pol m e)) (nodeCount m)) out₀ out
+      (Answer.Compiled n cost never nodes)
+  puts n is {price} {cost} {never} {nodes} c bits flag k =
+      let same : costAt rootProbs (seen pol m e) ≡ price = seen-price pol m rootProbs e (h .readable .there) ∙ sym c in
+      subst (λ (x : Price). Compiles (fitting (length out₀) (seen pol m e .tree) x (nodeCount m)) out₀ out (Answer.Compiled n cost never nodes)) (sym same)
+      (subst (λ (x : ℕ). Compiles (fitting (length out₀) (seen pol m e .tree) price x) out₀ out (Answer.Compiled n cost never nodes)) k
+      (put-all (seen pol m e .tree) out₀ out price nodes bits flag (subst (λ (x : Written). Wrote (seen pol m e .tree) out₀ out x) is wrote)))
 
   pub puts-nothing : w ≡ Written.TooSmall →
-      Compiles (fitting (length out₀) (seen pol m e .tree) (wordOfFloat (costAt rootProbs (seen pol m e))) (nodeCount m)) out₀ out
+      Compiles (fitting (length out₀) (seen pol m e .tree) (costAt rootProbs (seen pol m e)) (nodeCount m)) out₀ out
       (Answer.Refused OutputTooSmall)
   puts-nothing is =
-      put-none (seen pol m e .tree) out₀ out (wordOfFloat (costAt rootProbs (seen pol m e))) (nodeCount m)
+      put-none (seen pol m e .tree) out₀ out (costAt rootProbs (seen pol m e)) (nodeCount m)
       (subst (λ (x : Written). Wrote (seen pol m e .tree) out₀ out x) is wrote)
 
 -- ---- the policy of a number
@@ -111,12 +113,12 @@ module _ (c : Context) (pol : List ℕ) (root : ℕ) {r : Root} {m : List ℕ} (
   refused-root out n e = answers.refuses (outcome-as (length out) (Root.Refused n) e) refl
 
   pub compiled-root : (out₀ out : List ℕ) (e : ℕ) → r ≡ Root.At e → {a : Answer} →
-      Compiles (fitting (length out₀) (seen pol m e .tree) (wordOfFloat (costAt rootProbs (seen pol m e))) (nodeCount m)) out₀ out a →
+      Compiles (fitting (length out₀) (seen pol m e .tree) (costAt rootProbs (seen pol m e)) (nodeCount m)) out₀ out a →
       Compiles (compilePolicy c (length out₀) (policyAt pol root)) out₀ out a
   compiled-root out₀ out e is {a} h =
       let count : nodeCount m ≡ nodeCount m - 2 + 2 = omega (arith, f .holds .two) in
       subst (λ (o : Outcome). Compiles o out₀ out a) (sym (outcome-as (length out₀) (Root.At e) is))
       (subst
-      (λ (n : ℕ). Compiles (fitting (length out₀) (seen pol m e .tree) (wordOfFloat (costAt rootProbs (seen pol m e))) n) out₀ out a)
+      (λ (n : ℕ). Compiles (fitting (length out₀) (seen pol m e .tree) (costAt rootProbs (seen pol m e)) n) out₀ out a)
       count
       h)

@@ -5,6 +5,8 @@ use mathlib.Core.Path.{_≡_}
 use Prim.Native.Nat.{ℕ, _<_, _≤_}
 use lib.ListN.{length, drop}
 use Rattle.contexts.specs.declared.Context.{Context}
+use Rattle.costs.specs.declared.Price.{Price}
+use Rattle.costs.specs.Price.{costBits, neverFlag}
 use Rattle.policies.specs.Policy.{Policy, weight}
 use Rattle.policies.specs.Array.{policyAt, Named}
 use Rattle.writing.specs.WellFormed.{AllBelow, WellFormed}
@@ -26,13 +28,15 @@ use Rattle.compile.specs.declared.Root.the-variants as Root
 
 -- ---- what compile leaves
 
--- the bytes stand at the front of the output, with how many they are, the bits of the cost and the nodes used; or the number of a refusal
+-- the bytes stand at the front of the output, with how many they are, what is told of the cost, and the nodes used; or the number of a refusal
 pub data Compiles (o : Outcome) (out₀ out : List ℕ) : Answer → Type 0 where
-  compiles : {n cost nodes : ℕ} (bytes : List ℕ)
-      → o ≡ compiled bytes cost nodes
+  compiles : {n cost never nodes : ℕ} (bytes : List ℕ) (price : Price)
+      → o ≡ compiled bytes price nodes
+      → cost ≡ costBits price
+      → never ≡ neverFlag price
       → length bytes ≡ n
       → out ≡ bytes ++ drop n out₀
-      → Compiles o out₀ out (Answer.Compiled n cost nodes)
+      → Compiles o out₀ out (Answer.Compiled n cost never nodes)
   refuses : {n : ℕ} → o ≡ refusedWith n → out ≡ out₀ → Compiles o out₀ out (Answer.Refused n)
 
 -- ---- the root

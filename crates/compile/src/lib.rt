@@ -6,7 +6,6 @@
 ghost use mathlib.Core.Path.{_≡_};
 ghost use lib.ListN.{length};
 ghost use Rattle.memory.specs.Layout.{workWords, nodeCount};
-ghost use Rattle.words.specs.Floats.{wordOfFloat};
 ghost use Rattle.policies.specs.Array.{policyAt};
 ghost use Rattle.policies.specs.Reading.{readPolicy};
 ghost use Rattle.definition.specs.Refusals.{state};
@@ -14,7 +13,6 @@ ghost use Rattle.definition.specs.Tables.{costAt};
 ghost use Rattle.definition.specs.Compile.{rootProbs, bestCompilation, fitting, compilePolicy, compileRead};
 ghost use Rattle.nodes.specs.Words.{nodeAt};
 ghost use Rattle.nodes.specs.Views.{seen};
-ghost use Rattle.choice.specs.Chosen.{priceAt};
 ghost use Rattle.compile.specs.Answers.{Compiles, Choosable, Picks, Whole, Finds, Writable};
 ghost use mathlib.Core.List.{[]};
 use choice::Chosen;
@@ -38,9 +36,9 @@ const TOP_LEVEL_NON_SAFE: u8 = 12;
 
 const OUTPUT_TOO_SMALL: u8 = 13;
 
-// How many bytes were written, the bits of the tree's cost, and the nodes used; or the number of a refusal.
+// How many bytes were written, the bits of the tree's cost, whether that is never, and the nodes used; or the number of a refusal.
 pub enum Answer {
-    Compiled(usize, u64, usize),
+    Compiled(usize, u64, u32, usize),
     Refused(u8),
 }
 
@@ -59,16 +57,6 @@ fn is_safe(work: &[u64], e: u16) -> bool
     let ty = x.ty;
     let mall = ty.mall;
     mall.safe
-}
-
-// The bits of what node e costs as a root.
-fn cost_bits(work: &[u64], e: u16) -> u64
-    requires { ⌜ length (now work) ≡ workWords ⌝ }
-    ensures { λ r. ⌜ r ≡ wordOfFloat (priceAt (now (work .entry)) rootProbs e) ⌝ }
-{
-    let x = nodes::node(work, e);
-    let cost = x.cost_at(1.0, DissatProb::None);
-    words::word_of_float(cost)
 }
 
 // The cheapest entry of table s of base B, which must be safe.
@@ -102,12 +90,14 @@ fn find(context: Context, pol: &[u64], work: &mut [u64], root: usize) -> Root
 // Writes the tree of node e.
 fn put(pol: &[u64], work: &[u64], e: u16, out: &mut [u8]) -> Answer
     requires { ⌜ Writable (now pol) (now work) e ⌝ }
-    ensures { λ r. ⌜ Compiles (fitting (length (now (out .entry))) (seen (now (pol .entry)) (now (work .entry)) e .tree) (wordOfFloat (costAt rootProbs (seen (now (pol .entry)) (now (work .entry)) e))) (nodeCount (now (work .entry)))) (now (out .entry)) (now (out .exit)) r ⌝ }
+    ensures { λ r. ⌜ Compiles (fitting (length (now (out .entry))) (seen (now (pol .entry)) (now (work .entry)) e .tree) (costAt rootProbs (seen (now (pol .entry)) (now (work .entry)) e)) (nodeCount (now (work .entry)))) (now (out .entry)) (now (out .exit)) r ⌝ }
 {
-    let cost = cost_bits(work, e);
+    let price = choice::price(work, e, 1.0, DissatProb::None);
+    let cost = price.bits();
+    let never = price.never();
     let nodes = nodes::count(work);
     match output::write(pol, work, e, out) {
-        Written::Bytes(n) => Answer::Compiled(n, cost, nodes),
+        Written::Bytes(n) => Answer::Compiled(n, cost, never, nodes),
         Written::TooSmall => Answer::Refused(OUTPUT_TOO_SMALL),
     }
 }

@@ -12,11 +12,11 @@ pub zeros-length : (n : ℕ) → n ≡ length {A = ℕ} (replicate n 0)
 zeros-length n = sym (length-replicate n 0)
 
 by-outcome : (o : Outcome) (out left : List ℕ) (bytes : ℕ) → left ≡ outputAfter o out → bytes ≡ bytesWritten o → bytes ≤ length left
-by-outcome (compiled bs costBits nodes) out left bytes writes counts = omega (arith, ap length writes, length-append bs (drop (length bs) out))
+by-outcome (compiled bs cost nodes) out left bytes writes counts = omega (arith, ap length writes, length-append bs (drop (length bs) out))
 by-outcome (refusedWith n) out left bytes writes counts = omega arith
 
 -- the bytes that compile says it wrote lie in the output
-pub written-within : (context : ℕ) (policy out work : List ℕ) {number : ℕ} {left : List ℕ} {bytes cost nodes : ℕ} {after : List ℕ}
-    → CompilePromise context policy out work number left bytes cost nodes after → bytes ≤ length left
+pub written-within : (context : ℕ) (policy out work : List ℕ) {number : ℕ} {left : List ℕ} {bytes cost never nodes : ℕ} {after : List ℕ}
+    → CompilePromise context policy out work number left bytes cost never nodes after → bytes ≤ length left
 written-within context policy out work {left = left} {bytes = bytes} promise =
     by-outcome (given context policy out work) out left bytes (promise .writes) (promise .counts)

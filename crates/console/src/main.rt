@@ -29,10 +29,10 @@ const WORK_WORDS: usize = 612_360;
 const CHECK_WORDS: usize = 4_096;
 
 // Shows the answer to a policy that is compiled, and writes its tree to the new file that the words name, if they do.
-fn show_and_save(bytes: usize, cost: u64, nodes: u64, tree: &[u8])
+fn show_and_save(bytes: usize, cost: u64, never: u32, nodes: u64, tree: &[u8])
     requires { ⌜ bytes ≤ length (now tree) ⌝ }
 {
-    report::show_compiled(cost, nodes, &tree[..bytes]);
+    report::show_compiled(cost, never, nodes, &tree[..bytes]);
     if OUTPUT_WORD < os::arg_count() {
         files::save_word(OUTPUT_WORD, b"the path", &tree[..bytes]);
     }
@@ -61,6 +61,7 @@ fn compile(context: u32) {
     let mut work = [0u64; WORK_WORDS];
     let mut bytes = 0;
     let mut cost = 0;
+    let mut never = 0;
     let mut nodes = 0;
     let number = claspwillow::claspwillow_compile(
         context,
@@ -69,13 +70,14 @@ fn compile(context: u32) {
         &mut work,
         &mut bytes,
         &mut cost,
+        &mut never,
         &mut nodes,
     );
     if number != 0 {
         report::show_refusal(number);
         return;
     }
-    show_and_save(bytes as usize, cost, nodes, &tree);
+    show_and_save(bytes as usize, cost, never, nodes, &tree);
 }
 
 // Checks the tree that the words name and shows the answer.

@@ -1,3 +1,4 @@
 pub mod Sums
 pub mod Told
+pub mod PriceLaws
 pub mod Figures

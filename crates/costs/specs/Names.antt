@@ -6,5 +6,6 @@ pub use Rattle.costs.specs.declared.DissatCost.the-variants.{Some, None}
 pub use Rattle.costs.specs.declared.Cost.{Cost}
 pub use Rattle.costs.specs.declared.Costed.{Costed}
 pub use Rattle.costs.specs.declared.DissatProb.{DissatProb}
-pub use Rattle.costs.specs.declared.Comparable.{Comparable}
+pub use Rattle.costs.specs.declared.Price.{Price}
+pub use Rattle.costs.specs.declared.Price.the-variants.{Finite, Never, NotACost}
 pub use Rattle.costs.specs.declared.OrWeights.{OrWeights}

@@ -1,8 +1,9 @@
 // What satisfying and dissatisfying a fragment costs, what a candidate costs at given probabilities, and the weights of an Or.
 //
 // The rules carry the names and the order of CompilerExtData in policy/compiler.rs, and every operation on f64 is rounded in its order.
-// Contracts cite `specs/Rules.antt` (the rules), `specs/Cost1d.antt` (a candidate's cost, and when it can be compared) and
-// `specs/Weights.antt` (the weights). Document 01's marked figures stand in `specs/Figures.antt`, proved in `proofs/Figures.antt`.
+// Contracts cite `specs/Rules.antt` (the rules), `specs/Price.antt` (what a candidate costs: finite, never, or not a cost),
+// `specs/Cost1d.antt` (a candidate's cost) and `specs/Weights.antt` (the weights). Document 01's marked figures stand in
+// `specs/Figures.antt`, proved in `proofs/Figures.antt`.
 ghost use mathlib.Core.Path.{_≡_};
 ghost use Prim.Native.Nat.{_-_, min};
 ghost use lib.ListN.{take};
@@ -11,10 +12,10 @@ ghost use Rattle.costs.specs.Rules.{castAlt, castSwap, castCheck, castDu
 ghost use Rattle.costs.specs.Rules.{castZeronotequal, castTrue, castUnlikely, castLikely};
 ghost use Rattle.costs.specs.Rules.{after, plus, andB, andV, orB, orD, orC, lesser, orIDissat, orI, andOr};
 ghost use Rattle.costs.specs.Rules.{nothing, plusAll, threshold};
-ghost use Rattle.costs.specs.Cost1d.{lastTerm, cost1d, compared, atMost};
+ghost use Rattle.costs.specs.Cost1d.{lastTerm, cost1d};
 ghost use Rattle.costs.specs.Weights.{weights};
-use words::cost_le;
-use words::is_cost;
+
+pub mod pricing;
 
 // The largest finite f64.
 const MAX: f64 = 1.7976931348623157e308;
@@ -452,6 +453,13 @@ impl Cost {
     }
 }
 
+// What a candidate costs at given probabilities: a finite cost; never, where no witness will do; or not a cost, which is refused.
+pub enum Price {
+    Finite(f64),
+    Never,
+    NotACost,
+}
+
 // The probability that a fragment is dissatisfied; None where it never is.
 pub enum DissatProb {
     Some(f64),
@@ -472,43 +480,12 @@ fn last_term(dissat_prob: DissatProb, dissat_cost: DissatCost) -> f64
 }
 
 // What a candidate costs: the bytes of its script, and what its witness costs at these probabilities.
-pub fn cost_1d(pk_cost: u32, cost: Cost, sat_prob: f64, dissat_prob: DissatProb) -> f64
+pub fn cost_1d(pk_cost: u32, cost: Cost, sat_prob: f64, dissat_prob: DissatProb) -> Price
     ensures { λ r. ⌜ r ≡ cost1d «pk_cost» cost «sat_prob» «dissat_prob» ⌝ }
 {
     let dissat_cost = cost.dissat_cost;
     let last = last_term(dissat_prob, dissat_cost);
-    pk_cost as f64 + cost.sat_cost * sat_prob + last
-}
-
-// What a candidate's cost is where it is to be compared.
-pub enum Comparable {
-    Cost(f64),
-    NotACost,
-}
-
-// The cost, or that it is none.
-pub fn compared(cost: f64) -> Comparable
-    ensures { λ r. ⌜ r ≡ compared cost ⌝ }
-{
-    if is_cost(cost) {
-        return Comparable::Cost(cost);
-    }
-    Comparable::NotACost
-}
-
-impl Comparable {
-    // Whether this is the same cost or a lower one; false where either is no cost.
-    pub fn at_most(self, other: Comparable) -> bool
-        ensures { λ r. ⌜ r ≡ atMost self other ⌝ }
-    {
-        match self {
-            Comparable::Cost(a) => match other {
-                Comparable::Cost(b) => cost_le(a, b),
-                Comparable::NotACost => false,
-            },
-            Comparable::NotACost => false,
-        }
-    }
+    Price::of(pk_cost as f64 + cost.sat_cost * sat_prob + last)
 }
 
 // How likely each branch of an Or is to be taken.

@@ -14,7 +14,7 @@ use Rattle.figures.specs.Rules as ext
 use Rattle.figures.specs.Validity.{fromAst, checkGlobalValidity, checkLocalValidity}
 use Rattle.thresholds.specs.Threshold.{threshold, satisfied, worst, together, tryFold, sortBy, insertBy}
 use Rattle.costs.specs.Rules as cost
-use Rattle.costs.specs.Cost1d.{cost1d}
+use Rattle.costs.specs.Cost1d.{total1d, cost1d}
 use Rattle.contexts.specs.Lists as lists
 use Rattle.trees.specs.Fragment.{toList}
 use lib.Ieee.{add, sub, mul, div, lt, eq, le, ofBits, toBits, ofInt}
@@ -53,7 +53,7 @@ unfolding allRight few hexOnto sameBytes compile compilePolicy bestCompilation
     little leAt bytesOf u16s u32s shapeOf lookUp payloadOf made fromList without readWhole readRecord rootOf finish readFrom readPolicy depth deepest
     searcher searchers searching remembering lookup then forEach castsOf wrapped cheapest
     same sameAll kindOf numberOf kOf leftWeightOf rightWeightOf childrenOf policies.toList
-    insertClosure closure castAll insert any filter enter cost1d inRow toList nodeOf nodesOf count counts owns written writtenAll
+    insertClosure closure castAll insert any filter enter total1d cost1d inRow toList nodeOf nodesOf count counts owns written writtenAll
     checkLocalValidity checkGlobalValidity fromAst ext.falseExt ext.trueExt ext.pkK ext.pkH ext.multi ext.multiA
     ext.sha256 ext.hash256 ext.ripemd160 ext.hash160 ext.after ext.older ext.castAlt ext.castSwap ext.castCheck
     ext.castDupif ext.castVerify ext.castNonzero ext.castZeronotequal ext.castTrue ext.castUnlikely ext.castLikely
@@ -69,7 +69,7 @@ unfolding allRight desk hexOnto sameBytes compile compilePolicy bestCompilation
     little leAt bytesOf u16s u32s shapeOf lookUp payloadOf made fromList without readWhole readRecord rootOf finish readFrom readPolicy depth deepest
     searcher searchers searching remembering lookup then forEach castsOf wrapped cheapest
     same sameAll kindOf numberOf kOf leftWeightOf rightWeightOf childrenOf policies.toList
-    insertClosure closure castAll insert any filter enter cost1d inRow toList nodeOf nodesOf count counts owns written writtenAll
+    insertClosure closure castAll insert any filter enter total1d cost1d inRow toList nodeOf nodesOf count counts owns written writtenAll
     checkLocalValidity checkGlobalValidity fromAst ext.falseExt ext.trueExt ext.pkK ext.pkH ext.multi ext.multiA
     ext.sha256 ext.hash256 ext.ripemd160 ext.hash160 ext.after ext.older ext.castAlt ext.castSwap ext.castCheck
     ext.castDupif ext.castVerify ext.castNonzero ext.castZeronotequal ext.castTrue ext.castUnlikely ext.castLikely
@@ -85,7 +85,7 @@ unfolding allRight third hexOnto sameBytes compile compilePolicy bestCompilation
     little leAt bytesOf u16s u32s shapeOf lookUp payloadOf made fromList without readWhole readRecord rootOf finish readFrom readPolicy depth deepest
     searcher searchers searching remembering lookup then forEach castsOf wrapped cheapest
     same sameAll kindOf numberOf kOf leftWeightOf rightWeightOf childrenOf policies.toList
-    insertClosure closure castAll insert any filter enter cost1d inRow toList nodeOf nodesOf count counts owns written writtenAll
+    insertClosure closure castAll insert any filter enter total1d cost1d inRow toList nodeOf nodesOf count counts owns written writtenAll
     checkLocalValidity checkGlobalValidity fromAst ext.falseExt ext.trueExt ext.pkK ext.pkH ext.multi ext.multiA
     ext.sha256 ext.hash256 ext.ripemd160 ext.hash160 ext.after ext.older ext.castAlt ext.castSwap ext.castCheck
     ext.castDupif ext.castVerify ext.castNonzero ext.castZeronotequal ext.castTrue ext.castUnlikely ext.castLikely

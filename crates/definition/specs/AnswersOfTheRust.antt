@@ -4,6 +4,9 @@ use mathlib.Core.Bool.{Bool, true, false, _&&_}
 use mathlib.Core.List.{List, [], _∷_, _++_}
 use Prim.Native.Nat.{ℕ, zero, suc, _/_, _%_}
 use lib.Dec.{eqb}
+use Rattle.words.specs.Floats.{floatOfWord}
+use Rattle.costs.specs.declared.Price.the-variants as Price
+use Rattle.costs.specs.Price.{costBits, neverFlag}
 use Rattle.definition.specs.Compile.{Outcome, compiled, refusedWith, compile}
 
 -- so many bytes, from the digits that write them
@@ -21,7 +24,7 @@ sameBytes (x ∷ xs) [] = false
 sameBytes (x ∷ xs) (y ∷ ys) = eqb x y && sameBytes xs ys
 
 abbrev pub sameOutcome : Outcome → Outcome → Bool
-sameOutcome (compiled b c n) (compiled b′ c′ n′) = sameBytes b b′ && (eqb c c′ && eqb n n′)
+sameOutcome (compiled b c n) (compiled b′ c′ n′) = sameBytes b b′ && ((eqb (costBits c) (costBits c′) && eqb (neverFlag c) (neverFlag c′)) && eqb n n′)
 sameOutcome (compiled b c n) (refusedWith n′) = false
 sameOutcome (refusedWith n) (compiled b′ c′ n′) = false
 sameOutcome (refusedWith n) (refusedWith n′) = eqb n n′
@@ -32,8 +35,12 @@ pub record Line : Type 0 where
   pub policy : List ℕ
   pub answer : Outcome
 
-abbrev pub answered : ℕ → List ℕ → List ℕ → (costBits nodes : ℕ) → Line
-answered context policy output costBits nodes = record { context = context; policy = policy; answer = compiled output costBits nodes }
+abbrev pub answered : ℕ → List ℕ → List ℕ → (bits nodes : ℕ) → Line
+answered context policy output bits nodes =
+    record { context = context; policy = policy; answer = compiled output (Price.Finite (floatOfWord bits)) nodes }
+
+abbrev pub never : ℕ → List ℕ → List ℕ → (nodes : ℕ) → Line
+never context policy output nodes = record { context = context; policy = policy; answer = compiled output Price.Never nodes }
 
 abbrev pub refusal : ℕ → List ℕ → ℕ → Line
 refusal context policy number = record { context = context; policy = policy; answer = refusedWith number }
@@ -68,6 +75,9 @@ few =
     ∷ answered 0 (hex 28 0x080003000100000008000300070000000C000C000200020000000100)
         (hex 42 0x080022000100000006002C00000006002E000100080022000700000006002C0003000800320002000400) 0x406b000000000000 116
     ∷ refusal 1 (hex 18 0x08000600050000000A000C00010001000000) 12
+    -- two parts that cannot be satisfied: never
+    ∷ never 1 (hex 16 0x040001000400010008000A0000000100)
+        (hex 40 0x0400200006002E0000000400200006002E0002000400210008003200030004000800320001000500) 30
     -- no record; a weight of 0; a context that is none
     ∷ refusal 0 [] 3
     ∷ refusal 1 (hex 32 0x0800030001000000080003000200000010000B00000001000000000001000000) 4

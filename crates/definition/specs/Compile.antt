@@ -6,10 +6,10 @@ use mathlib.Core.Option.{Option, none, some}
 use Prim.Native.Nat.{ℕ, suc, _+_}
 use lib.Dec.{leb, eqb}
 use lib.ListN.{length}
-use Rattle.words.specs.Floats.{wordOfFloat}
 use Rattle.contexts.specs.declared.Context.{Context}
 use Rattle.contexts.specs.declared.Context.the-variants.{Segwitv0, Tap}
 use Rattle.costs.specs.declared.DissatProb.the-variants as Prob
+use Rattle.costs.specs.declared.Price.{Price}
 use Rattle.costs.specs.Arithmetic.{1·}
 use Rattle.policies.specs.Policy.{Policy}
 use Rattle.policies.specs.Reading as Reading
@@ -40,18 +40,18 @@ bestCompilation c q = do
   x ← chosen (cheapest rootProbs isBaseB t)
   ifSafe x
 
--- what compile tells besides its number 0: the bytes of the tree, the bits of its cost, and the nodes used; or the number of a refusal
+-- what compile tells besides its number 0: the bytes of the tree, what it costs, and the nodes used; or the number of a refusal
 pub data Outcome : Type 0 where
-  compiled : (bytes : List ℕ) → (costBits nodes : ℕ) → Outcome
+  compiled : (bytes : List ℕ) → (cost : Price) → (nodes : ℕ) → Outcome
   refusedWith : ℕ → Outcome
 
 -- the records of a tree that has not too many, where they fit
-abbrev pub fitting : (room : ℕ) → Fragment → (costBits nodes : ℕ) → Outcome
-fitting room x costBits nodes =
-    cond (leb (size x) maxRecords && leb (length (bytesOfTree x)) room) (compiled (bytesOfTree x) costBits nodes) (refusedWith OutputTooSmall)
+abbrev pub fitting : (room : ℕ) → Fragment → (cost : Price) → (nodes : ℕ) → Outcome
+fitting room x cost nodes =
+    cond (leb (size x) maxRecords && leb (length (bytesOfTree x)) room) (compiled (bytesOfTree x) cost nodes) (refusedWith OutputTooSmall)
 
 abbrev pub outcome : (room : ℕ) → Res Candidate → Outcome
-outcome room (done x s) = fitting room (x .tree) (wordOfFloat (costAt rootProbs x)) (s .accepted + 2)
+outcome room (done x s) = fitting room (x .tree) (costAt rootProbs x) (s .accepted + 2)
 outcome room (refused n) = refusedWith n
 
 -- what a policy gives, with so many bytes of room for the output

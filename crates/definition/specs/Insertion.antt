@@ -7,8 +7,10 @@ use Prim.Native.Nat.{ℕ, zero, suc}
 use lib.Dec.{leb}
 use lib.ListN.{length}
 use Rattle.contexts.specs.declared.Context.{Context}
-use Rattle.words.specs.Floats.{isCost, costLe}
 use Rattle.figures.specs.Validity.{checkLocalValidity}
+use Rattle.costs.specs.declared.Price.{Price}
+use Rattle.costs.specs.declared.Price.the-variants as Price
+use Rattle.costs.specs.Price.{atMost}
 use Rattle.trees.specs.Fragment.{Fragment}
 use Rattle.definition.specs.Candidates.{Candidate, Cast, allCasts, Made, passedOver, missing, made, kindOf}
 use Rattle.definition.specs.Tables.{Probs, Table, costAt, keySub, enter}
@@ -29,7 +31,7 @@ worthwhile c x = x .ty .mall .«non_malleable» && checkLocalValidity c (kindOf 
 
 -- whether entry x is a subtype of y at the same or a lower cost
 abbrev pub beats : Probs → Candidate → Candidate → Bool
-beats p x y = keySub x y && costLe (costAt p x) (costAt p y)
+beats p x y = keySub x y && atMost (costAt p x) (costAt p y)
 
 -- the table after an offer, and whether the candidate was accepted
 pub record Offered : Type 0 where
@@ -46,13 +48,18 @@ entered x kept =
     (accept >>= λ _. pure (record { table = enter x kept; accepted = true }))
     (refuse TableFull)
 
+-- what is done with a candidate whose cost can be compared: a finite one, or never
+abbrev pub ifPriced : Price → M Offered → M Offered
+ifPriced (Price.Finite x) offer = offer
+ifPriced Price.Never offer = offer
+ifPriced Price.NotACost offer = refuse NotACost
+
 -- a candidate is offered to a table
 unfoldable pub insert : Context → Probs → Candidate → Table → M Offered
 insert c p x t =
     cond (worthwhile c x)
-    (cond (isCost (costAt p x))
-    (cond (any (λ e. beats p e x) t) (turnedAway t) (entered x (filter (λ e. not (beats p x e)) t)))
-    (refuse NotACost))
+    (ifPriced (costAt p x)
+    (cond (any (λ e. beats p e x) t) (turnedAway t) (entered x (filter (λ e. not (beats p x e)) t))))
     (turnedAway t)
 
 -- ---- the closure: a queue of accepted candidates, each of which is cast all ten ways

@@ -13,10 +13,10 @@ use Rattle.correctness.specs.declared.Base.{Base}
 use Rattle.correctness.specs.declared.Base.the-variants.{B, W}
 use Rattle.correctness.specs.Letters.{baseEq}
 use Rattle.malleability.specs.Letters.{isUnique}
-use Rattle.words.specs.Floats.{costLe}
 use Rattle.costs.specs.declared.DissatProb.{DissatProb}
 use Rattle.costs.specs.declared.DissatProb.the-variants as Prob
 use Rattle.costs.specs.Arithmetic.{_⊕_, _⊖_, _⊗_, _⊘_, floatOf, 0·, 1·}
+use Rattle.costs.specs.Price.{atMost, excess}
 use Rattle.costs.specs.Weights.{weights}
 use Rattle.policies.specs.Policy.{Policy, Policies, end, _▹_, Unsatisfiable, Trivial, Key, Lock, Hash, And, Or, Thresh}
 use Rattle.definition.specs.Candidates.{Candidate, Cast, allCasts, Made, passedOver, missing, made, Pair}
@@ -29,7 +29,7 @@ use Rattle.definition.specs.Insertion.{insertClosure}
 
 -- the search of the same policy with no dissatisfaction, where there is one to ask for
 pub data Again : Type 0 where
-  never : Again
+  alone : Again
   redo : M Table → Again
 
 -- each entry of a table in turn
@@ -51,7 +51,7 @@ castsOf c p again (f ∷ fs) t = do
 
 -- a candidate with its closure, then each cast of what the search without dissatisfaction found
 unfoldable pub wrapped : Context → Probs → Again → Candidate → Table → M Table
-wrapped c p never x t = insertClosure c p x t
+wrapped c p alone x t = insertClosure c p x t
 wrapped c p (redo again) x t = insertClosure c p x t >>= λ t. castsOf c p again (allCasts c) t
 
 -- what was made of others is wrapped, unless it was passed over
@@ -73,7 +73,7 @@ ternary c p g lw rw xs ys zs t =
 
 abbrev pub cheaper : Probs → Candidate → Option Candidate → Candidate
 cheaper p x none = x
-cheaper p x (some y) = cond (costLe (costAt p x) (costAt p y)) x y
+cheaper p x (some y) = cond (atMost (costAt p x) (costAt p y)) x y
 
 -- the cheapest entry that suits, the first of them on a tie
 unfoldable pub cheapest : Probs → (Candidate → Bool) → Table → Option Candidate
@@ -127,8 +127,8 @@ without p = probs (p .sat) Prob.None
 
 -- what the body may ask for again: where the policy may be dissatisfied, its search without dissatisfaction
 abbrev pub againAt : Policy → Body → Probs → DissatProb → Again
-againAt q body p Prob.None = never
-againAt q body p (Prob.Some d) = redo (remembering q (without p) (body (without p) never))
+againAt q body p Prob.None = alone
+againAt q body p (Prob.Some d) = redo (remembering q (without p) (body (without p) alone))
 
 unfoldable pub searching : Policy → Body → Probs → M Table
 searching q body p = remembering q p (body p (againAt q body p (p .dissat)))
@@ -227,12 +227,12 @@ bests p (s ∷ ss) = do
   bs ← bests p ss
   pure (b ∷ bs)
 
--- the child that gains most by being the E: the first with the least difference of its costs, and the first of all where none is below infinity
+-- the child that gains most by being the E: the first whose cost as E exceeds that as W by least, and the first of all where none is below infinity
 unfoldable pub mostGaining : Probs → (place best : ℕ) → Float → List Best → ℕ
 mostGaining p place best least [] = best
 mostGaining p place best least (b ∷ bs) =
-    cond (lt (costAt p (b .e) ⊖ costAt p (b .w)) least)
-    (mostGaining p (suc place) place (costAt p (b .e) ⊖ costAt p (b .w)) bs)
+    cond (lt (excess (costAt p (b .e)) (costAt p (b .w))) least)
+    (mostGaining p (suc place) place (excess (costAt p (b .e)) (costAt p (b .w))) bs)
     (mostGaining p (suc place) best least bs)
 
 abbrev pub nth : ℕ → Best → List Best → Best

@@ -10,6 +10,7 @@ use Rattle.types.specs.TypeOrder.{pack}
 use Rattle.contexts.specs.Bools.{boolRank}
 use Rattle.costs.specs.declared.DissatProb.{DissatProb}
 use Rattle.costs.specs.declared.DissatProb.the-variants as Prob
+use Rattle.costs.specs.declared.Price.{Price}
 use Rattle.costs.specs.Cost1d.{cost1d}
 use Rattle.definition.specs.Candidates.{Candidate}
 
@@ -21,8 +22,8 @@ pub record Probs : Type 0 where
 abbrev pub probs : Float → DissatProb → Probs
 probs s d = record { sat = s; dissat = d }
 
--- what a candidate costs at these probabilities
-abbrev pub costAt : Probs → Candidate → Float
+-- what a candidate costs at these probabilities: a finite cost, never, or not a cost
+abbrev pub costAt : Probs → Candidate → Price
 costAt p x = cost1d (x .ext .«pk_cost») (x .cost) (p .sat) (p .dissat)
 
 -- a table is a list of its entries, in the order of their keys: type, then free-verify

@@ -8,8 +8,8 @@ use native.Mathlib.Omega.{arith}
 use borrow.Author.Tests.{leb-true}
 use lib.Dec.{leb}
 use lib.ListN.{length}
-use Rattle.words.specs.Floats.{wordOfFloat}
 use Rattle.contexts.specs.declared.Context.{Context}
+use Rattle.costs.specs.declared.Price.{Price}
 use Rattle.correctness.specs.declared.Base.{Base}
 use Rattle.correctness.specs.declared.Base.the-variants.{B, K, «V», W}
 use Rattle.correctness.specs.Letters.{isB}
@@ -64,20 +64,20 @@ both : (a b : Bool) → a && b ≡ true → (a ≡ true) × (b ≡ true)
 both true b h = (refl, h)
 both false b h = absurd (false≢true h)
 
-never : {A : Type 0} {bytes : List ℕ} {cost nodes e : ℕ} → refusedWith e ≡ compiled bytes cost nodes → A
-never h = let z : _≡_ {A = ℕ} 0 1 = cc in absurd (omega arith)
+not-both : {A : Type 0} {bytes : List ℕ} {cost : Price} {nodes e : ℕ} → refusedWith e ≡ compiled bytes cost nodes → A
+not-both h = let z : _≡_ {A = ℕ} 0 1 = cc in absurd (omega arith)
 
-pub compiled-is-sound : (c : Context) (room : ℕ) (q : Policy) (bytes : List ℕ) (cost nodes : ℕ) → FormedPolicy q →
+pub compiled-is-sound : (c : Context) (room : ℕ) (q : Policy) (bytes : List ℕ) (cost : Price) (nodes : ℕ) → FormedPolicy q →
     compilePolicy c room q ≡ compiled bytes cost nodes → Sound c room bytes nodes
 unfolding compilePolicy
 compiled-is-sound c room q bytes cost nodes w h = by-answer (bestCompilation-keeps c q w .from (state 0 []) (start-proper c)) h
   where
-    fitted : (x : Candidate) (s : State) (word : ℕ) (b : Bool) → (leb (size (x .tree)) maxRecords && leb (length (bytesOfTree (x .tree))) room) ≡ b →
+    fitted : (x : Candidate) (s : State) (price : Price) (b : Bool) → (leb (size (x .tree)) maxRecords && leb (length (bytesOfTree (x .tree))) room) ≡ b →
         RootWell c x → ProperState c s →
-        cond b (compiled (bytesOfTree (x .tree)) word (s .accepted + 2)) (refusedWith OutputTooSmall) ≡ compiled bytes cost nodes →
+        cond b (compiled (bytesOfTree (x .tree)) price (s .accepted + 2)) (refusedWith OutputTooSmall) ≡ compiled bytes cost nodes →
         Sound c room bytes nodes
-    fitted x s word false t r g h = never h
-    fitted x s word true t r g h =
+    fitted x s price false t r g h = not-both h
+    fitted x s price true t r g h =
         let test = both (leb (size (x .tree)) maxRecords) (leb (length (bytesOfTree (x .tree))) room) t in
         let worth = both (x .ty .mall .«non_malleable») (checkLocalValidity c (kindOf (x .tree)) (x .ext)) (r .entry .worth) in
         let same-bytes : bytesOfTree (x .tree) ≡ bytes = cc in
@@ -98,9 +98,9 @@ compiled-is-sound c room q bytes cost nodes w h = by-answer (bestCompilation-kee
         }
 
     by-answer : {r : Res Candidate} → Gives c (RootWell c) (state 0 []) r → outcome room r ≡ compiled bytes cost nodes → Sound c room bytes nodes
-    by-answer (refuses n) h = never h
+    by-answer (refuses n) h = not-both h
     by-answer (gives {a = x} {s′ = s} r g l) h =
-        fitted x s (wordOfFloat (costAt rootProbs x)) (leb (size (x .tree)) maxRecords && leb (length (bytesOfTree (x .tree))) room) refl r g h
+        fitted x s (costAt rootProbs x) (leb (size (x .tree)) maxRecords && leb (length (bytesOfTree (x .tree))) room) refl r g h
 
 -- a policy that can be written and is not compiled is refused with one of the numbers from NodesFull to OutputTooSmall
 pub refused-is-named : (c : Context) (room : ℕ) (q : Policy) (n : ℕ) → FormedPolicy q →
@@ -111,9 +111,9 @@ refused-is-named c room q n w h = by-answer (bestCompilation-keeps c q w .from (
     same-number : {m : ℕ} → NodesFull ≤ m → m ≤ OutputTooSmall → refusedWith m ≡ refusedWith n → (NodesFull ≤ n) × (n ≤ OutputTooSmall)
     same-number {m} a b h = let e : m ≡ n = cc in omega arith
 
-    by-test : (b : Bool) (bytes : List ℕ) (cost nodes : ℕ) → cond b (compiled bytes cost nodes) (refusedWith OutputTooSmall) ≡ refusedWith n →
+    by-test : (b : Bool) (bytes : List ℕ) (cost : Price) (nodes : ℕ) → cond b (compiled bytes cost nodes) (refusedWith OutputTooSmall) ≡ refusedWith n →
         (NodesFull ≤ n) × (n ≤ OutputTooSmall)
-    by-test true bytes cost nodes h = never (sym h)
+    by-test true bytes cost nodes h = not-both (sym h)
     by-test false bytes cost nodes h = same-number {m = OutputTooSmall} (omega arith) (omega arith) h
 
     by-answer : {r : Res Candidate} → Gives c (RootWell c) (state 0 []) r → outcome room r ≡ refusedWith n → (NodesFull ≤ n) × (n ≤ OutputTooSmall)
@@ -122,7 +122,7 @@ refused-is-named c room q n w h = by-answer (bestCompilation-keeps c q w .from (
         by-test (leb (size (x .tree)) maxRecords && leb (length (bytesOfTree (x .tree))) room) (bytesOfTree (x .tree)) _ _ h
 
 -- the whole of compile is sound, in the context of the number that it was given
-pub compile-is-sound : (context : ℕ) (workFits : Bool) (policy : List ℕ) (room : ℕ) (bytes : List ℕ) (cost nodes : ℕ) → AllBelow 256 policy →
+pub compile-is-sound : (context : ℕ) (workFits : Bool) (policy : List ℕ) (room : ℕ) (bytes : List ℕ) (cost : Price) (nodes : ℕ) → AllBelow 256 policy →
     compile context workFits policy room ≡ compiled bytes cost nodes →
     (c : Context) × (contextOf context ≡ some c) × Sound c room bytes nodes
 unfolding compile
@@ -130,15 +130,15 @@ compile-is-sound context workFits policy room bytes cost nodes below h = by-cont
   where
     by-reading : (c : Context) (a : Reading.Answer Policy) → readPolicy policy ≡ a → compileRead c room a ≡ compiled bytes cost nodes →
         Sound c room bytes nodes
-    by-reading c (Reading.refused n) e h = never h
+    by-reading c (Reading.refused n) e h = not-both h
     by-reading c (Reading.done q) e h = compiled-is-sound c room q bytes cost nodes (reads-formed policy below q e) h
 
     by-work : (c : Context) (b : Bool) → cond b (compileRead c room (readPolicy policy)) (refusedWith BadWork) ≡ compiled bytes cost nodes →
         Sound c room bytes nodes
     by-work c true h = by-reading c (readPolicy policy) refl h
-    by-work c false h = never h
+    by-work c false h = not-both h
 
     by-context : (o : Option Context) → contextOf context ≡ o → compileIn context workFits room policy o ≡ compiled bytes cost nodes →
         (c : Context) × (contextOf context ≡ some c) × Sound c room bytes nodes
-    by-context none e h = never h
+    by-context none e h = not-both h
     by-context (some c) e h = (c, e, by-work c workFits h)

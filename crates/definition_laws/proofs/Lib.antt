@@ -12,4 +12,5 @@ pub mod Compiling
 pub mod Passing
 pub mod Steps
 pub mod NothingBetter
+pub mod Before
 pub mod Bodies

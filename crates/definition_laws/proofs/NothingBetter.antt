@@ -8,13 +8,13 @@ use Prim.Native.Nat.{ℕ, suc}
 use native.Mathlib.Omega.{arith}
 use borrow.Author.Tests.{not-true, not-false}
 use lib.Dec.{T, leb}
-use lib.Ieee.{Float}
 use lib.Ieee.Bits.{is-true}
 use lib.ListN.{length}
 use Rattle.contexts.specs.declared.Context.{Context}
 use Rattle.contexts.proofs.Bools.{and-l, and-r, and-i}
-use Rattle.words.specs.Floats.{isCost, costLe}
-use Rattle.words.proofs.Floats.{cost-le-total, cost-le-trans}
+use Rattle.costs.specs.declared.Price.{Price}
+use Rattle.costs.specs.Price.{isPrice, atMost}
+use Rattle.costs.proofs.PriceLaws.{at-most-total, at-most-trans}
 use Rattle.type_laws.proofs.SubtypeLaws.{sub-trans}
 use Rattle.types.specs.Subtype.{typeSub}
 use Rattle.definition.specs.Candidates.{Candidate}
@@ -31,15 +31,15 @@ use Rattle.definition_laws.proofs.Sorting.{all-map, all-both, all-filte
 
 -- ---- the order of costs
 
-cost-trans : (a b c : Float) → costLe a b ≡ true → costLe b c ≡ true → costLe a c ≡ true
-cost-trans a b c h k = is-true _ (cost-le-trans a b c (holds _ h) (holds _ k))
+cost-trans : (a b c : Price) → atMost a b ≡ true → atMost b c ≡ true → atMost a c ≡ true
+cost-trans a b c h k = is-true _ (at-most-trans a b c (holds _ h) (holds _ k))
   where
     holds : (b : Bool) → b ≡ true → T b
     holds true h = tt
     holds false h = absurd (true≢false (sym h))
 
-cost-total : (a b : Float) → isCost a ≡ true → isCost b ≡ true → (costLe a b ≡ true) ⊎ (costLe b a ≡ true)
-cost-total a b p q = ⊎-elim (λ h. inl (is-true _ h)) (λ h. inr (is-true _ h)) (cost-le-total a b p q)
+cost-total : (a b : Price) → isPrice a ≡ true → isPrice b ≡ true → (atMost a b ≡ true) ⊎ (atMost b a ≡ true)
+cost-total a b p q = ⊎-elim (λ h. inl (is-true _ h)) (λ h. inr (is-true _ h)) (at-most-total a b p q)
 
 -- ---- the order of candidates
 
@@ -58,17 +58,17 @@ sub-key-trans x y z h k =
 beats-trans : (p : Probs) (x y z : Candidate) → beats p x y ≡ true → beats p y z ≡ true → beats p x z ≡ true
 beats-trans p x y z h k =
     and-i _ _
-    (sub-key-trans x y z (and-l _ (costLe (costAt p x) (costAt p y)) h) (and-l _ (costLe (costAt p y) (costAt p z)) k))
+    (sub-key-trans x y z (and-l _ (atMost (costAt p x) (costAt p y)) h) (and-l _ (atMost (costAt p y) (costAt p z)) k))
     (cost-trans (costAt p x) (costAt p y) (costAt p z) (and-r (keySub x y) _ h) (and-r (keySub y z) _ k))
 
 -- of two candidates of one key one beats the other, if their costs can be compared
-one-beats : (p : Probs) (x y : Candidate) → isCost (costAt p x) ≡ true → isCost (costAt p y) ≡ true → SameKey x y →
+one-beats : (p : Probs) (x y : Candidate) → isPrice (costAt p x) ≡ true → isPrice (costAt p y) ≡ true → SameKey x y →
     (beats p x y ≡ true) ⊎ (beats p y x ≡ true)
 one-beats p x y i j k =
     ⊎-elim (λ h. inl (and-i _ _ (key-self x y (k .0) (k .1)) h)) (λ h. inr (and-i _ _ (key-self y x (sym (k .0)) (sym (k .1))) h))
     (cost-total (costAt p x) (costAt p y) i j)
 
-beats-self : (p : Probs) (x : Candidate) → isCost (costAt p x) ≡ true → beats p x x ≡ true
+beats-self : (p : Probs) (x : Candidate) → isPrice (costAt p x) ≡ true → beats p x x ≡ true
 beats-self p x i = ⊎-elim (λ h. h) (λ h. h) (one-beats p x x i i (refl, refl))
 
 -- ---- one entry, and any two, of a table that entries leave and enter
@@ -150,7 +150,7 @@ done-same h = cc
 data Left (c : Context) (p : Probs) (x : Candidate) (t : Table) : Table → Type 0 where
   unworthy : worthwhile c x ≡ false → Left c p x t t
   beaten : any (λ e. beats p e x) t ≡ true → Left c p x t t
-  enters : isCost (costAt p x) ≡ true → any (λ e. beats p e x) t ≡ false → Left c p x t (enter x (unbeaten p x t))
+  enters : isPrice (costAt p x) ≡ true → any (λ e. beats p e x) t ≡ false → Left c p x t (enter x (unbeaten p x t))
 
 module _ (c : Context) (p : Probs) (x : Candidate) (t : Table) (s s′ : State) (o : Offered) where
   insert-left : insert c p x t s ≡ done o s′ → Left c p x t (o .table)
@@ -162,21 +162,21 @@ module _ (c : Context) (p : Probs) (x : Candidate) (t : Table) (s s′ : State) 
       refuses : {n : ℕ} → insert c p x t s ≡ refused n → Left c p x t (o .table)
       refuses e = let z : _≡_ {A = ℕ} 0 1 = cc in absurd (omega (arith, z))
 
-      by-count : isCost (costAt p x) ≡ true → any (λ e. beats p e x) t ≡ false → worthwhile c x ≡ true →
+      by-count : isPrice (costAt p x) ≡ true → any (λ e. beats p e x) t ≡ false → worthwhile c x ≡ true →
           leb (suc (length (unbeaten p x t))) maxEntries ≡ true → (b : Bool) → leb (suc (s .accepted)) maxAccepted ≡ b → Left c p x t (o .table)
       by-count i a w l true n = leaves (insert-enters c p x t s w i a l n) (enters i a)
       by-count i a w l false n = refuses (insert-nodes-full c p x t s w i a l n)
 
-      by-length : isCost (costAt p x) ≡ true → any (λ e. beats p e x) t ≡ false → worthwhile c x ≡ true →
+      by-length : isPrice (costAt p x) ≡ true → any (λ e. beats p e x) t ≡ false → worthwhile c x ≡ true →
           (b : Bool) → leb (suc (length (unbeaten p x t))) maxEntries ≡ b → Left c p x t (o .table)
       by-length i a w true l = by-count i a w l _ refl
       by-length i a w false l = refuses (insert-table-full c p x t s w i a l)
 
-      by-table : isCost (costAt p x) ≡ true → worthwhile c x ≡ true → (b : Bool) → any (λ e. beats p e x) t ≡ b → Left c p x t (o .table)
+      by-table : isPrice (costAt p x) ≡ true → worthwhile c x ≡ true → (b : Bool) → any (λ e. beats p e x) t ≡ b → Left c p x t (o .table)
       by-table i w true a = leaves (insert-beaten c p x t s w i a) (beaten a)
       by-table i w false a = by-length i a w _ refl
 
-      by-cost : worthwhile c x ≡ true → (b : Bool) → isCost (costAt p x) ≡ b → Left c p x t (o .table)
+      by-cost : worthwhile c x ≡ true → (b : Bool) → isPrice (costAt p x) ≡ b → Left c p x t (o .table)
       by-cost w true i = by-table i w _ refl
       by-cost w false i = refuses (insert-costless c p x t s w i)
 
@@ -190,7 +190,7 @@ Met p y t = Some (λ e. beats p e y ≡ true) t
 
 -- the costs of all entries can be compared, and none beats another
 record Fine (p : Probs) (t : Table) : Type 0 where
-  costs : All (λ e. isCost (costAt p e) ≡ true) t
+  costs : All (λ e. isPrice (costAt p e) ≡ true) t
   noneBeaten : AnyTwo (λ x y. beats p x y ≡ false) t
 
 module _ {c : Context} {p : Probs} {x : Candidate} where
@@ -242,13 +242,13 @@ offers-after c p (x ∷ xs) t s s′ u f h = by-answer (insert c p x t s) refl h
     by-answer (refused n) e h rest = let z : _≡_ {A = ℕ} 0 1 = cc in absurd (omega (arith, z))
 
 -- where none beats another, no two have one key
-one-of-a-key : (p : Probs) {t : Table} → All (λ e. isCost (costAt p e) ≡ true) t → AnyTwo (λ x y. beats p x y ≡ false) t →
+one-of-a-key : (p : Probs) {t : Table} → All (λ e. isPrice (costAt p e) ≡ true) t → AnyTwo (λ x y. beats p x y ≡ false) t →
     AnyTwo (λ x y. SameKey x y → ⊥) t
 one-of-a-key p laws.nobody nobody = nobody
 one-of-a-key p (_and_ {x} i is) (first h hs) =
     first (all-map (λ y k. (other x y i (k .0) (k .1), other y x (k .0) i (k .1 .1, k .1 .0))) (all-both is h)) (one-of-a-key p is hs)
   where
-    other : (x y : Candidate) → isCost (costAt p x) ≡ true → isCost (costAt p y) ≡ true → (beats p x y ≡ false) × (beats p y x ≡ false) →
+    other : (x y : Candidate) → isPrice (costAt p x) ≡ true → isPrice (costAt p y) ≡ true → (beats p x y ≡ false) × (beats p y x ≡ false) →
         SameKey x y → ⊥
     other x y i j n k = ⊎-elim (λ h. true≢false (sym h ∙ n .0)) (λ h. true≢false (sym h ∙ n .1)) (one-beats p x y i j k)
 

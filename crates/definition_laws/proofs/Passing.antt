@@ -4,6 +4,7 @@ use mathlib.Core.Option.{some}
 use mathlib.Core.Path.{_≡_, ap, _∙_}
 use Prim.Native.Nat.{ℕ}
 use Rattle.contexts.specs.declared.Context.{Context}
+use Rattle.costs.specs.declared.Price.{Price}
 use Rattle.trees.specs.Reading.{done}
 use Rattle.trees.specs.Tree.{treeOf}
 use Rattle.trees.specs.TreeCheck.{Typed, contextOf}
@@ -30,7 +31,7 @@ sound-passes context {c} {bytes} k s =
     }
 
 -- what is compiled of a policy that can be written passes, in every context
-pub compiled-passes : (context : ℕ) (c : Context) (room : ℕ) (q : Policy) (bytes : List ℕ) (cost nodes : ℕ) → contextOf context ≡ some c →
+pub compiled-passes : (context : ℕ) (c : Context) (room : ℕ) (q : Policy) (bytes : List ℕ) (cost : Price) (nodes : ℕ) → contextOf context ≡ some c →
     FormedPolicy q → compilePolicy c room q ≡ compiled bytes cost nodes → Passes context bytes
 compiled-passes context c room q bytes cost nodes k w h = sound-passes context k (compiled-is-sound c room q bytes cost nodes w h)
 

@@ -7,7 +7,6 @@ use Prim.Native.Nat.{ℕ, zero, suc, _^_}
 use native.Mathlib.Omega.{arith}
 use lib.Dec.{eqb}
 use lib.ListN.{length}
-use Rattle.words.specs.Floats.{costLe}
 use lib.Ieee.{Float}
 use Rattle.contexts.specs.declared.Context.{Context}
 use Rattle.correctness.specs.declared.Base.the-variants.{B, W}
@@ -15,6 +14,7 @@ use Rattle.costs.specs.declared.DissatProb.{DissatProb}
 use Rattle.costs.specs.declared.DissatProb.the-variants as Prob
 use Rattle.costs.specs.Arithmetic.{0·, 1·}
 use Rattle.costs.specs.Weights.{weights}
+use Rattle.costs.specs.Price.{atMost}
 use Rattle.policies.specs.Policy.{Policy, Policies, end, _▹_, toList, Unsatisfiable, Trivial, Key, Lock, Hash, And, Or, Thresh}
 use Rattle.writing.specs.WellFormed.{AllBelow, IsThreshold}
 use Rattle.definition.specs.Candidates.{Candidate, Cast, Made, Pair}
@@ -22,7 +22,7 @@ use Rattle.definition.specs.Tables.{Probs, Table, costAt}
 use Rattle.definition.specs.Refusals.{Stored, M, lookup, sameProbs}
 use Rattle.definition.specs.Refusals.{NotACost, LimitsExceeded}
 use Rattle.definition.specs.SamePolicy.{same}
-use Rattle.definition.specs.Search.{Again, never, redo, forEach, insertedIfTyped, castsOf, wrapped, wrappedIfMade, binary, ternary}
+use Rattle.definition.specs.Search.{Again, alone, redo, forEach, insertedIfTyped, castsOf, wrapped, wrappedIfMade, binary, ternary}
 use Rattle.definition.specs.Search.{cheaper, cheapest, chosen, suitsThresh, Searcher, plain, conjunction, policyOf, searchOf, kept, foundOr}
 use Rattle.definition.specs.Search.{remembering, Body, without, againAt, searching, leaves, andBody, andOrs, Four, fourOf, orBody}
 use Rattle.definition.specs.Search.{Best, bestOf, bests, nth, othersAsW, arranged, keyOr, keysOf, multiOf, andSearcher, foldAnds}
@@ -48,7 +48,7 @@ goods h = all-map (λ x e. e .good) (h .entries)
 
 -- what may be asked for again gives a proper table
 pub data AgainWell (c : Context) : Again → Type 0 where
-  neverIs : AgainWell c never
+  aloneIs : AgainWell c alone
   redoIs : {m : M Table} → Keeps c (Proper c) m → AgainWell c (redo m)
 
 pub forEach-keeps : {c : Context} {P : Candidate → Type 0} {Q : Table → Type 0} {f : Candidate → Table → M Table} {xs t : Table} →
@@ -74,7 +74,7 @@ castsOf-keeps a (f and fs) h =
 pub wrapped-keeps : {c : Context} {p : Probs} {g : Again} {x : Candidate} {t : Table} → AgainWell c g → Good c x → ProperAt c p t →
     Keeps c (ProperAt c p) (wrapped c p g x t)
 unfolding wrapped
-wrapped-keeps neverIs i h = insertClosure-keeps i h
+wrapped-keeps aloneIs i h = insertClosure-keeps i h
 wrapped-keeps {c} (redoIs a) i h = bind-keeps (insertClosure-keeps i h) λ t h. castsOf-keeps a (casts-good c) h
 
 pub wrappedIfMade-keeps : {c : Context} {p : Probs} {g : Again} {m : Made} {t : Table} → AgainWell c g → IfMade (Good c) m → ProperAt c p t →
@@ -115,7 +115,7 @@ cheapest-of {P} p suits (_and_ {x} {xs} g gs) = by-test (suits x) refl (cheapest
 
     cheaper-of : {o : Option Candidate} → Chosen P suits x → IfSome (Chosen P suits) o → Chosen P suits (cheaper p x o)
     cheaper-of h noneIs = h
-    cheaper-of h (someIs {x = y} k) = of-two (costLe (costAt p x) (costAt p y)) h k
+    cheaper-of h (someIs {x = y} k) = of-two (atMost (costAt p x) (costAt p y)) h k
 
     by-test : (b : Bool) → suits x ≡ b → IfSome (Chosen P suits) (cheapest p suits xs) →
         IfSome (Chosen P suits) (cond b (some (cheaper p x (cheapest p suits xs))) (cheapest p suits xs))
@@ -159,8 +159,8 @@ abbrev pub BodyWell : Context → Body → Type 0
 BodyWell c body = (p : Probs) (g : Again) → AgainWell c g → Keeps c (Proper c) (body p g)
 
 again-well : {c : Context} {body : Body} (q : Policy) (p : Probs) (d : DissatProb) → BodyWell c body → AgainWell c (againAt q body p d)
-again-well q p Prob.None h = neverIs
-again-well q p (Prob.Some d) h = redoIs (remembering-keeps q (without p) (h (without p) never neverIs))
+again-well q p Prob.None h = aloneIs
+again-well q p (Prob.Some d) h = redoIs (remembering-keeps q (without p) (h (without p) alone aloneIs))
 
 pub searching-keeps : {c : Context} (q : Policy) {body : Body} → BodyWell c body → (p : Probs) → Keeps c (Proper c) (searching q body p)
 unfolding searching

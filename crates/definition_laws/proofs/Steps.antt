@@ -10,7 +10,9 @@ use lib.Ieee.{Float, inf, lt}
 use Rattle.contexts.specs.declared.Context.{Context}
 use Rattle.contexts.specs.Leaves.{LockKind, HashKind}
 use Rattle.correctness.specs.declared.Base.the-variants.{B, W}
-use Rattle.words.specs.Floats.{isCost}
+use Rattle.costs.specs.declared.Price.{Price}
+use Rattle.costs.specs.declared.Price.the-variants as Price
+use Rattle.costs.specs.Price.{isPrice, excess}
 use Rattle.costs.specs.declared.DissatProb.the-variants as Prob
 use Rattle.costs.specs.Arithmetic.{_⊕_, _⊖_, _⊗_, _⊘_, floatOf, 0·, 1·}
 use Rattle.costs.specs.Weights.{weights}
@@ -22,9 +24,9 @@ use Rattle.definition.specs.SamePolicy.{same}
 use Rattle.definition.specs.Refusals.{State, state, Stored, Res, done, refused, M, then, pure, refuse, lookup, sameProbs}
 use Rattle.definition.specs.Refusals.{NodesFull, TableFull, CacheFull, FuelSpent, NotACost, LimitsExceeded}
 use Rattle.definition.specs.Refusals.{maxAccepted, maxEntries, maxTables, maxPops}
-use Rattle.definition.specs.Insertion.{any, filter, worthwhile, beats, Offered, turnedAway, entered, insert, Queued, queued, joins}
+use Rattle.definition.specs.Insertion.{ifPriced, any, filter, worthwhile, beats, Offered, turnedAway, entered, insert, Queued, queued, joins}
 use Rattle.definition.specs.Insertion.{offer, castAll, closure, insertClosure}
-use Rattle.definition.specs.Search.{Again, never, redo, forEach, insertedIfTyped, castsOf, wrapped, wrappedIfMade, binary, ternary}
+use Rattle.definition.specs.Search.{Again, alone, redo, forEach, insertedIfTyped, castsOf, wrapped, wrappedIfMade, binary, ternary}
 use Rattle.definition.specs.Search.{cheaper, cheapest, chosen, suitsThresh, isBaseB, Searcher, plain, conjunction, policyOf, searchOf, kept}
 use Rattle.definition.specs.Search.{remembering, Body, without, searching, leaves, andBody, orNone, andOrs, Four, fourOf, orBody}
 use Rattle.definition.specs.Search.{Best, bestOf, bests, mostGaining, nth, othersAsW, arranged, keyOr, keysOf, multiOf, andSearcher}
@@ -89,6 +91,11 @@ module _ {w i b : Bool} (x : Candidate) (t kept : Table) (s : State) where
   unbeaten-enters : w ≡ true → i ≡ true → b ≡ false → decided w i b x t kept s ≡ entered x kept s
   unbeaten-enters h k l = rw (h, k, l)
 
+pub priced-is : (price : Price) (m : M Offered) → ifPriced price m ≡ cond (isPrice price) m (refuse NotACost)
+priced-is (Price.Finite x) m = refl
+priced-is Price.Never m = refl
+priced-is Price.NotACost m = refl
+
 -- what is left of the table is full, or it is not
 module _ (x : Candidate) (kept : Table) (s : State) where
   pub entered-table-full : leb (suc (length kept)) maxEntries ≡ false → entered x kept s ≡ refused TableFull
@@ -110,29 +117,30 @@ module _ (c : Context) (p : Probs) (x : Candidate) (t : Table) (s : State) where
   unfolding insert
   insert-unworthy w = rw w
 
-  pub insert-costless : worthwhile c x ≡ true → isCost (costAt p x) ≡ false → insert c p x t s ≡ refused NotACost
+  insert-is : insert c p x t s ≡ decided (worthwhile c x) (isPrice (costAt p x)) (any (λ e. beats p e x) t) x t (unbeaten p x t) s
   unfolding insert
-  insert-costless w i = rw (w, i)
+  insert-is = ap (λ (m : M Offered). cond (worthwhile c x) m (turnedAway t) s) (priced-is (costAt p x) _)
 
-  pub insert-beaten : worthwhile c x ≡ true → isCost (costAt p x) ≡ true → any (λ e. beats p e x) t ≡ true →
+  pub insert-costless : worthwhile c x ≡ true → isPrice (costAt p x) ≡ false → insert c p x t s ≡ refused NotACost
+  insert-costless w i = insert-is ∙ rw (w, i)
+
+  pub insert-beaten : worthwhile c x ≡ true → isPrice (costAt p x) ≡ true → any (λ e. beats p e x) t ≡ true →
       insert c p x t s ≡ done (offered t false) s
-  unfolding insert
-  insert-beaten w i b = beaten x t (unbeaten p x t) s w i b
+  insert-beaten w i b = insert-is ∙ beaten x t (unbeaten p x t) s w i b
 
-  pub insert-unbeaten : worthwhile c x ≡ true → isCost (costAt p x) ≡ true → any (λ e. beats p e x) t ≡ false →
+  pub insert-unbeaten : worthwhile c x ≡ true → isPrice (costAt p x) ≡ true → any (λ e. beats p e x) t ≡ false →
       insert c p x t s ≡ entered x (unbeaten p x t) s
-  unfolding insert
-  insert-unbeaten w i b = unbeaten-enters x t (unbeaten p x t) s w i b
+  insert-unbeaten w i b = insert-is ∙ unbeaten-enters x t (unbeaten p x t) s w i b
 
-  pub insert-table-full : worthwhile c x ≡ true → isCost (costAt p x) ≡ true → any (λ e. beats p e x) t ≡ false →
+  pub insert-table-full : worthwhile c x ≡ true → isPrice (costAt p x) ≡ true → any (λ e. beats p e x) t ≡ false →
       leb (suc (length (unbeaten p x t))) maxEntries ≡ false → insert c p x t s ≡ refused TableFull
   insert-table-full w i b l = insert-unbeaten w i b ∙ entered-table-full x (unbeaten p x t) s l
 
-  pub insert-nodes-full : worthwhile c x ≡ true → isCost (costAt p x) ≡ true → any (λ e. beats p e x) t ≡ false →
+  pub insert-nodes-full : worthwhile c x ≡ true → isPrice (costAt p x) ≡ true → any (λ e. beats p e x) t ≡ false →
       leb (suc (length (unbeaten p x t))) maxEntries ≡ true → leb (suc (s .accepted)) maxAccepted ≡ false → insert c p x t s ≡ refused NodesFull
   insert-nodes-full w i b l n = insert-unbeaten w i b ∙ entered-nodes-full x (unbeaten p x t) s l n
 
-  pub insert-enters : worthwhile c x ≡ true → isCost (costAt p x) ≡ true → any (λ e. beats p e x) t ≡ false →
+  pub insert-enters : worthwhile c x ≡ true → isPrice (costAt p x) ≡ true → any (λ e. beats p e x) t ≡ false →
       leb (suc (length (unbeaten p x t))) maxEntries ≡ true → leb (suc (s .accepted)) maxAccepted ≡ true →
       insert c p x t s ≡ done (offered (enter x (unbeaten p x t)) true) (state (suc (s .accepted)) (s .stored))
   insert-enters w i b l n = insert-unbeaten w i b ∙ entered-enters x (unbeaten p x t) s l n
@@ -214,9 +222,9 @@ module _ (c : Context) (p : Probs) where
   unfolding castsOf
   castsOf-next m f fs t s = refl
 
-  pub wrapped-never : (x : Candidate) (t : Table) (s : State) → wrapped c p never x t s ≡ insertClosure c p x t s
+  pub wrapped-alone : (x : Candidate) (t : Table) (s : State) → wrapped c p alone x t s ≡ insertClosure c p x t s
   unfolding wrapped
-  wrapped-never x t s = refl
+  wrapped-alone x t s = refl
 
   pub wrapped-redo : (m : M Table) (x : Candidate) (t : Table) (s : State) →
       wrapped c p (redo m) x t s ≡ then (insertClosure c p x t s) λ t. castsOf c p m (allCasts c) t
@@ -304,14 +312,14 @@ module _ (q : Policy) (p : Probs) (m : M Table) (s : State) where
 -- ---- searches
 
 pub searching-none : (q : Policy) (body : Body) (sat : Float) →
-    searching q body (probs sat Prob.None) ≡ remembering q (probs sat Prob.None) (body (probs sat Prob.None) never)
+    searching q body (probs sat Prob.None) ≡ remembering q (probs sat Prob.None) (body (probs sat Prob.None) alone)
 unfolding searching
 searching-none q body sat = refl
 
 pub searching-some : (q : Policy) (body : Body) (sat d : Float) →
     searching q body (probs sat (Prob.Some d))
     ≡ remembering q (probs sat (Prob.Some d))
-    (body (probs sat (Prob.Some d)) (redo (remembering q (probs sat Prob.None) (body (probs sat Prob.None) never))))
+    (body (probs sat (Prob.Some d)) (redo (remembering q (probs sat Prob.None) (body (probs sat Prob.None) alone))))
 unfolding searching
 searching-some q body sat d = refl
 
@@ -470,13 +478,13 @@ unfolding mostGaining
 mostGaining-none p place best least = refl
 
 pub mostGaining-gains : (p : Probs) (place best : ℕ) (least : Float) (b : Best) (bs : List Best) →
-    lt (costAt p (b .e) ⊖ costAt p (b .w)) least ≡ true →
-    mostGaining p place best least (b ∷ bs) ≡ mostGaining p (suc place) place (costAt p (b .e) ⊖ costAt p (b .w)) bs
+    lt (excess (costAt p (b .e)) (costAt p (b .w))) least ≡ true →
+    mostGaining p place best least (b ∷ bs) ≡ mostGaining p (suc place) place (excess (costAt p (b .e)) (costAt p (b .w))) bs
 unfolding mostGaining
 mostGaining-gains p place best least b bs h = rw h
 
 pub mostGaining-other : (p : Probs) (place best : ℕ) (least : Float) (b : Best) (bs : List Best) →
-    lt (costAt p (b .e) ⊖ costAt p (b .w)) least ≡ false →
+    lt (excess (costAt p (b .e)) (costAt p (b .w))) least ≡ false →
     mostGaining p place best least (b ∷ bs) ≡ mostGaining p (suc place) best least bs
 unfolding mostGaining
 mostGaining-other p place best least b bs h = rw h

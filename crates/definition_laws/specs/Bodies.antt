@@ -8,11 +8,11 @@ use Rattle.policies.specs.Policy.{Policy, Unsatisfiable, Trivial, Key, Lock, Ha
 use Rattle.definition.specs.Candidates.{false′, true′, pkK, pkH, lock, hash}
 use Rattle.definition.specs.Tables.{Probs, Table}
 use Rattle.definition.specs.Refusals.{M}
-use Rattle.definition.specs.Search.{Again, never, redo, Body, without, search, searcher, searchers, leaves, andBody, orBody, threshBody}
+use Rattle.definition.specs.Search.{Again, alone, redo, Body, without, search, searcher, searchers, leaves, andBody, orBody, threshBody}
 
 -- where the policy may be dissatisfied, its search without dissatisfaction
 abbrev pub againFor : Context → Policy → Probs → DissatProb → Again
-againFor c q p Prob.None = never
+againFor c q p Prob.None = alone
 againFor c q p (Prob.Some d) = redo (search c q (without p))
 
 abbrev pub againIn : Context → Policy → Probs → Again

@@ -7,7 +7,6 @@ use mathlib.Core.Path.{_≡_}
 use Prim.Native.Nat.{ℕ, _+_, _≤_}
 use lib.ListN.{length}
 use Rattle.contexts.specs.declared.Context.{Context}
-use Rattle.words.specs.Floats.{isCost}
 use Rattle.types.specs.declared.«Type».{«Type»}
 use Rattle.types.specs.declared.TypeResult.the-variants.{Ok}
 use Rattle.correctness.specs.declared.Base.the-variants.{B}
@@ -15,6 +14,8 @@ use Rattle.figures.specs.declared.ExtData.{ExtData}
 use Rattle.figures.specs.Rules as ext
 use Rattle.figures.specs.Validity.{checkLocalValidity}
 use Rattle.thresholds.specs.Threshold.{threshold}
+use Rattle.costs.specs.declared.Price.{Price}
+use Rattle.costs.specs.Price.{isPrice}
 use Rattle.trees.specs.Fragment.{Fragment, Fragments, end, _▹_, False, True, PkK, PkH, Lock, Hash}
 use Rattle.trees.specs.Fragment.{Alt, Swap, Check, DupIf, Verify, NonZero, ZeroNotEqual}
 use Rattle.trees.specs.Fragment.{AndB, AndV, OrB, OrD, OrC, OrI, AndOr, Thresh, Multi, MultiA}
@@ -106,7 +107,7 @@ pub record Proper (c : Context) (t : Table) : Type 0 where
 -- a table under construction at given probabilities: what its entries cost can be compared
 pub record ProperAt (c : Context) (p : Probs) (t : Table) : Type 0 where
   pub proper : Proper c t
-  pub costs : All (λ x. isCost (costAt p x) ≡ true) t
+  pub costs : All (λ x. isPrice (costAt p x) ≡ true) t
 
 -- ---- the state
 
@@ -167,5 +168,5 @@ pub record Passes (context : ℕ) (bytes : List ℕ) : Type 0 where
 -- whatever compile writes for the bytes of a policy passes the tree check in the same context
 abbrev pub CompilePasses : Type 0
 CompilePasses =
-    (context : ℕ) (workFits : Bool) (policy : List ℕ) (room : ℕ) (bytes : List ℕ) (cost nodes : ℕ) → AllBelow 256 policy →
+    (context : ℕ) (workFits : Bool) (policy : List ℕ) (room : ℕ) (bytes : List ℕ) (cost : Price) (nodes : ℕ) → AllBelow 256 policy →
     compile context workFits policy room ≡ compiled bytes cost nodes → Passes context bytes

@@ -3,7 +3,7 @@ use mathlib.Core.Bool.{true, false}
 use mathlib.Core.List.{List, [], _∷_}
 use mathlib.Core.Path.{_≡_}
 use Rattle.contexts.specs.declared.Context.{Context}
-use Rattle.words.specs.Floats.{isCost}
+use Rattle.costs.specs.Price.{isPrice}
 use Rattle.definition.specs.Candidates.{Candidate}
 use Rattle.definition.specs.Tables.{Probs, Table, costAt, freeVerify}
 use Rattle.definition.specs.Refusals.{State, done, M, _>>=_, pure}
@@ -36,7 +36,7 @@ SameKey x y = (x .ty ≡ y .ty) × (freeVerify x ≡ freeVerify y)
 pub record NothingBetter (c : Context) (p : Probs) (offered : List Candidate) (t : Table) : Type 0 where
   -- no entry is a subtype of another at the same or a lower cost, and all their costs can be compared
   pub noneBeaten : AnyTwo (λ x y. beats p x y ≡ false) t
-  pub comparable : All (λ x. isCost (costAt p x) ≡ true) t
+  pub comparable : All (λ x. isPrice (costAt p x) ≡ true) t
   -- for every offer that was not malleable or locally invalid some entry is a subtype of it at the same or a lower cost
   pub allMet : All (λ x. worthwhile c x ≡ true → Some (λ e. beats p e x ≡ true) t) offered
   -- at most one entry has a key

@@ -6,7 +6,7 @@ use lib.Dec.{eqb}
 use Rattle.definition.specs.AnswersOfTheRust.{sameBytes}
 use Rattle.oracle_lines.specs.declared.Said.{Said}
 
--- the number, the output, the bits of the cost and the nodes
-abbrev pub answers : Said → (number : ℕ) → (written stored : List ℕ) → (cost nodes : ℕ) → Bool
-answers s number written stored cost nodes =
-    eqb number (s .number) && (sameBytes written stored && (eqb cost (s .cost) && eqb nodes (s .nodes)))
+-- the number, the output, the bits of the cost, whether it is never, and the nodes
+abbrev pub answers : Said → (number : ℕ) → (written stored : List ℕ) → (cost never nodes : ℕ) → Bool
+answers s number written stored cost never nodes =
+    eqb number (s .number) && (sameBytes written stored && ((eqb cost (s .cost) && eqb never (s .never)) && eqb nodes (s .nodes)))

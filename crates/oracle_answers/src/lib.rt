@@ -25,12 +25,21 @@ fn same_bytes(a: &[u8], b: &[u8]) -> bool
     true
 }
 
-// Whether what was given for a case is what its line says: the number, the output, the bits of the cost and the nodes.
-pub fn agrees(said: Said, number: u32, written: &[u8], stored: &[u8], cost: u64, nodes: u64) -> bool
-    ensures { λ r. ⌜ r ≡ answers said number (now (written .entry)) (now (stored .entry)) cost nodes ⌝ }
+// Whether what was given for a case is what its line says: the number, the output, the bits of the cost, whether it is never, and the nodes.
+pub fn agrees(
+    said: Said,
+    number: u32,
+    written: &[u8],
+    stored: &[u8],
+    cost: u64,
+    never: u32,
+    nodes: u64,
+) -> bool
+    ensures { λ r. ⌜ r ≡ answers said number (now (written .entry)) (now (stored .entry)) cost never nodes ⌝ }
 {
     let same = same_bytes(written, stored);
-    (number == said.number) & (same & ((cost == said.cost) & (nodes == said.nodes as u64)))
+    let told = (cost == said.cost) & (never == said.never);
+    (number == said.number) & (same & (told & (nodes == said.nodes as u64)))
 }
 
 // The upper-case hexadecimal digit of a value.
@@ -68,13 +77,22 @@ fn show_bits(w: u64) {
     }
 }
 
+// Writes a cost as the list has it.
+fn show_cost(cost: u64, never: u32) {
+    if never == 1 {
+        io::write_all(STDOUT_FILENO, b"-");
+        return;
+    }
+    show_bits(cost);
+}
+
 // Writes what was given for a case as a line of the list ends.
-pub fn show_answer(number: u32, output: &[u8], cost: u64, nodes: u64) {
+pub fn show_answer(number: u32, output: &[u8], cost: u64, never: u32, nodes: u64) {
     io::print_decimal(STDOUT_FILENO, number as u64);
     io::write_all(STDOUT_FILENO, b" ");
     show_records(output);
     io::write_all(STDOUT_FILENO, b" ");
-    show_bits(cost);
+    show_cost(cost, never);
     io::write_all(STDOUT_FILENO, b" ");
     io::print_decimal(STDOUT_FILENO, nodes);
 }

@@ -6,8 +6,10 @@ use Prim.Native.Nat.{ℕ, _+_, _≤_}
 use native.Mathlib.Omega.{arith}
 use borrow.Author.Tests.{eq-eqb, ne-eqb}
 use lib.ListN.{length, take, getD}
-use Rattle.oracle_lines.specs.Lines.{Line, says, records, hash, space, split, saidBy, lineOf}
-use Rattle.numerals.specs.Numbers.{decimal, bits}
+use Rattle.oracle_lines.specs.Lines.{Line, says, records, dash, Told, finite, cost, hash, space, split, saidBy, lineOf}
+use Rattle.numerals.specs.Numbers.{decimal, bits, found64}
+use Rattle.numerals.specs.declared.Number64.{Number64}
+use Rattle.numerals.specs.declared.Number64.the-variants as Number64
 use Rattle.oracle_lines.specs.Reads.{part, Reads, reads, misses, InOrder, SixWords, six, other, saidAt, Tells, passes, breaks}
 use Rattle.oracle_lines.specs.declared.Length.{Length}
 use Rattle.oracle_lines.specs.declared.Length.the-variants as Length
@@ -29,6 +31,33 @@ pub told-no-bytes : {o : Option (List ℕ)} {room : List ℕ} {r : Length} → R
 told-no-bytes (reads e h t) q = absurd (let z : _≡_ {A = ℕ} 0 1 = cc in omega arith)
 told-no-bytes (misses e) q = e
 
+-- ---- a cost
+
+pub never-word : (w : List ℕ) → length w ≡ 1 → getD w 0 0 ≡ dash → some (record { bits = 0; never = 1 }) ≡ cost w
+unfolding cost
+never-word [] h e = absurd (omega arith)
+never-word (b ∷ []) h e = sym (rw (eq-eqb b dash e))
+never-word (b ∷ l ∷ s) h e = absurd (omega arith)
+
+pub no-cost : (w : List ℕ) → length w ≡ 1 → (getD w 0 0 ≡ dash → ⊥) → none ≡ cost w
+unfolding cost
+no-cost [] h e = absurd (omega arith)
+no-cost (b ∷ []) h e = sym (rw (ne-eqb b dash e))
+no-cost (b ∷ l ∷ s) h e = absurd (omega arith)
+
+pub bits-word : (w : List ℕ) → (length w ≡ 1 → ⊥) → finite (bits w) ≡ cost w
+unfolding cost bits
+bits-word [] h = refl
+bits-word (b ∷ []) h = absurd (h refl)
+bits-word (b ∷ l ∷ s) h = refl
+
+module _ (w : List ℕ) (long : length w ≡ 1 → ⊥) {r : Number64} (e : found64 r ≡ bits w) where
+  pub bits-told : (b : ℕ) → r ≡ Number64.Is b → some (record { bits = b; never = 0 }) ≡ cost w
+  bits-told b k = ap (λ (x : Number64). finite (found64 x)) (sym k) ∙ ap finite e ∙ bits-word w long
+
+  pub bits-missing : r ≡ Number64.Missing → none ≡ cost w
+  bits-missing k = ap (λ (x : Number64). finite (found64 x)) (sym k) ∙ ap finite e ∙ bits-word w long
+
 -- ---- the six words
 
 module _ (line : List ℕ) (a b c d e : ℕ) where
@@ -49,14 +78,14 @@ module _ (line : List ℕ) (a b c d e : ℕ) where
           stops-3 x = breaks (rw (x0, x1, x2, x))
 
           module _ {v3 : List ℕ} (x3 : records (part line (c + 1) d) ≡ some v3) where
-            pub stops-4 : bits (part line (d + 1) e) ≡ none → Tells (saidAt line a b c d e) policy output Case.Broken
+            pub stops-4 : cost (part line (d + 1) e) ≡ none → Tells (saidAt line a b c d e) policy output Case.Broken
             stops-4 x = breaks (rw (x0, x1, x2, x3, x))
 
-            module _ {v4 : ℕ} (x4 : bits (part line (d + 1) e) ≡ some v4) where
+            module _ {v4 : Told} (x4 : cost (part line (d + 1) e) ≡ some v4) where
               pub stops-5 : decimal (part line (e + 1) (length line)) ≡ none → Tells (saidAt line a b c d e) policy output Case.Broken
               stops-5 x = breaks (rw (x0, x1, x2, x3, x4, x))
 
-              pub says-all : {v5 : ℕ} → decimal (part line (e + 1) (length line)) ≡ some v5 → saidAt line a b c d e ≡ says v0 v1 v2 v3 v4 v5
+              pub says-all : {v5 : ℕ} → decimal (part line (e + 1) (length line)) ≡ some v5 → saidAt line a b c d e ≡ says v0 v1 v2 v3 (v4 .bits) (v4 .never) v5
               says-all x = rw (x0, x1, x2, x3, x4, x)
 
 -- ---- the words of a line

@@ -49,13 +49,30 @@ records [] = none
 records (b ∷ []) = cond (eqb b dash) (some []) none
 records (h ∷ l ∷ s) = bytes (h ∷ l ∷ s)
 
+-- ---- a cost in a word
+
+-- what is told of a cost: its bits, and 1 where it is never, else 0
+pub record Told : Type 0 where
+  pub bits : ℕ
+  pub never : ℕ
+
+abbrev pub finite : Option ℕ → Option Told
+finite none = none
+finite (some b) = some (record { bits = b; never = 0 })
+
+-- a cost by its bits, `-` where it is never
+unfoldable pub cost : List ℕ → Option Told
+cost [] = none
+cost (b ∷ []) = cond (eqb b dash) (some (record { bits = 0; never = 1 })) none
+cost (h ∷ l ∷ s) = finite (bits (h ∷ l ∷ s))
+
 -- ---- a line
 
 -- a line is passed over, is broken, or says what the Rust gives for a policy in a context
 pub data Line : Type 0 where
   passed : Line
   broken : Line
-  says : (context : ℕ) → (policy : List ℕ) → (number : ℕ) → (output : List ℕ) → (cost nodes : ℕ) → Line
+  says : (context : ℕ) → (policy : List ℕ) → (number : ℕ) → (output : List ℕ) → (cost never nodes : ℕ) → Line
 
 -- a line goes on with what a word says, and is broken where it says nothing
 infixl 20 _>>=_
@@ -63,15 +80,15 @@ abbrev pub _>>=_ : {A : Type 0} → Option A → (A → Line) → Line
 none >>= f = broken
 some a >>= f = f a
 
-abbrev pub said : (context policy number output cost nodes : List ℕ) → Line
-said context policy number output cost nodes = do
+abbrev pub said : (context policy number output price nodes : List ℕ) → Line
+said context policy number output price nodes = do
   c ← decimal context
   p ← records policy
   n ← decimal number
   o ← records output
-  k ← bits cost
+  k ← cost price
   m ← decimal nodes
-  says c p n o k m
+  says c p n o (k .bits) (k .never) m
 
 -- six words
 abbrev pub saidBy : List (List ℕ) → Line

@@ -6,9 +6,11 @@ use mathlib.Core.Path.{_≡_}
 use Prim.Native.Nat.{ℕ, _+_, _-_, _*_, _<_, _≤_}
 use lib.Dec.{eqb}
 use lib.ListN.{length, take, drop}
-use Rattle.oracle_lines.specs.Lines.{space, split, Line, passed, broken, says, said}
+use Rattle.oracle_lines.specs.Lines.{space, split, Told, Line, passed, broken, says, said}
 use Rattle.oracle_lines.specs.declared.Length.{Length}
 use Rattle.oracle_lines.specs.declared.Length.the-variants as Length
+use Rattle.oracle_lines.specs.declared.CostRead.{CostRead}
+use Rattle.oracle_lines.specs.declared.CostRead.the-variants as CostRead
 use Rattle.oracle_lines.specs.declared.Words.{Words}
 use Rattle.oracle_lines.specs.declared.Words.the-variants as Words
 use Rattle.oracle_lines.specs.declared.Said.{Said}
@@ -30,6 +32,11 @@ pub record EndsAt (sign : ℕ) (s : List ℕ) (from to : ℕ) : Type 0 where
 pub data Reads (o : Option (List ℕ)) (room : List ℕ) : Length → Type 0 where
   reads : {n : ℕ} {s : List ℕ} → o ≡ some s → n ≤ length room → take n room ≡ s → Reads o room (Length.Is n)
   misses : o ≡ none → Reads o room Length.Missing
+
+-- the cost that was read
+abbrev pub foundCost : CostRead → Option Told
+foundCost (CostRead.Is bits never) = some (record { bits = bits; never = never })
+foundCost CostRead.Missing = none
 
 -- the ends of five words stand in order before the end of a line
 pub record InOrder (a b c d e end : ℕ) : Type 0 where
@@ -60,7 +67,7 @@ saidAt s a b c d e =
 
 -- what a case says, its policy and its output at the front of their rooms
 abbrev pub saidIn : Said → (policy output : List ℕ) → Line
-saidIn s policy output = says (s .context) (take (s .policy) policy) (s .number) (take (s .output) output) (s .cost) (s .nodes)
+saidIn s policy output = says (s .context) (take (s .policy) policy) (s .number) (take (s .output) output) (s .cost) (s .never) (s .nodes)
 
 -- a line that was read is passed over, is that case, or is broken
 pub data Tells (l : Line) (policy output : List ℕ) : Case → Type 0 where

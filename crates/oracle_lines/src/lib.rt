@@ -4,11 +4,11 @@
 ghost use mathlib.Core.Path.{_≡_};
 ghost use Prim.Native.Nat.{_+_, _*_, _≤_};
 ghost use lib.ListN.{length};
-ghost use Rattle.numerals.specs.Numbers.{found32, found64};
-ghost use Rattle.numerals.specs.Numbers.{decimal as Numbers·decimal, bits as Numbers·bits};
+ghost use Rattle.numerals.specs.Numbers.{found32};
+ghost use Rattle.numerals.specs.Numbers.{decimal as Numbers·decimal};
 ghost use Rattle.oracle_lines.specs.Lines.{space, split, saidBy, lineOf};
-ghost use Rattle.oracle_lines.specs.Lines.{bytes as Lines·bytes, records as Lines·records};
-ghost use Rattle.oracle_lines.specs.Reads.{part, EndsAt, Reads, SixWords, InOrder, saidAt, Tells};
+ghost use Rattle.oracle_lines.specs.Lines.{bytes as Lines·bytes, records as Lines·records, cost as Lines·cost};
+ghost use Rattle.oracle_lines.specs.Reads.{part, EndsAt, Reads, foundCost, SixWords, InOrder, saidAt, Tells};
 use numerals::NO_DIGIT;
 use numerals::Number32;
 use numerals::Number64;
@@ -28,6 +28,12 @@ pub enum Length {
     Missing,
 }
 
+// What reading a cost finds: its bits, and 1 where it is never, else 0.
+pub enum CostRead {
+    Is(u64, u32),
+    Missing,
+}
+
 // Where the words of a line end, all but the last; or that there are not six.
 pub enum Words {
     Six(usize, usize, usize, usize, usize),
@@ -41,6 +47,7 @@ pub struct Said {
     pub number: u32,
     pub output: usize,
     pub cost: u64,
+    pub never: u32,
     pub nodes: u32,
 }
 
@@ -107,6 +114,22 @@ fn records(word: &[u8], room: &mut [u8]) -> Length
     bytes(word, room)
 }
 
+// The cost that a word writes: its bits in 16 digits, or the sign of never.
+fn cost(word: &[u8]) -> CostRead
+    ensures { λ r. ⌜ foundCost r ≡ Lines·cost (now (word .entry)) ⌝ }
+{
+    if word.len() == 1 {
+        if word[0] == DASH {
+            return CostRead::Is(0, 1);
+        }
+        return CostRead::Missing;
+    }
+    match bits(word) {
+        Number64::Is(b) => CostRead::Is(b, 0),
+        Number64::Missing => CostRead::Missing,
+    }
+}
+
 // Where the words of a line end.
 fn six_words(line: &[u8]) -> Words
     ensures { λ r. ⌜ SixWords (now (line .entry)) r ⌝ }
@@ -146,12 +169,12 @@ fn decimal_at(line: &[u8], from: usize, to: usize) -> Number32
     decimal(&line[from..to])
 }
 
-// The bits in a part of a line.
-fn bits_at(line: &[u8], from: usize, to: usize) -> Number64
+// The cost in a part of a line.
+fn cost_at(line: &[u8], from: usize, to: usize) -> CostRead
     requires { ⌜ (from ≤ to) × (to ≤ length (now line)) ⌝ }
-    ensures { λ r. ⌜ found64 r ≡ Numbers·bits (part (now (line .entry)) from to) ⌝ }
+    ensures { λ r. ⌜ foundCost r ≡ Lines·cost (part (now (line .entry)) from to) ⌝ }
 {
-    bits(&line[from..to])
+    cost(&line[from..to])
 }
 
 // Puts the bytes of the records in a part of a line at the front of a room.
@@ -190,7 +213,7 @@ fn case_in(
     let Length::Is(o) = records_at(line, c + 1, d, output) else {
         return Case::Broken;
     };
-    let Number64::Is(cost) = bits_at(line, d + 1, e) else {
+    let CostRead::Is(cost, never) = cost_at(line, d + 1, e) else {
         return Case::Broken;
     };
     let Number32::Is(nodes) = decimal_at(line, last, line.len()) else {
@@ -202,6 +225,7 @@ fn case_in(
         number,
         output: o,
         cost,
+        never,
         nodes,
     })
 }

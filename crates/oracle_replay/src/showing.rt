@@ -9,10 +9,10 @@ fn show_place(n: u64) {
     io::print_decimal(STDOUT_FILENO, n);
 }
 
-fn show_differing(n: u64, number: u32, output: &[u8], cost: u64, nodes: u64) {
+fn show_differing(n: u64, number: u32, output: &[u8], cost: u64, never: u32, nodes: u64) {
     show_place(n);
     io::write_all(STDOUT_FILENO, b" differs: the port gives ");
-    show_answer(number, output, cost, nodes);
+    show_answer(number, output, cost, never, nodes);
     io::write_all(STDOUT_FILENO, b"\n");
 }
 
@@ -21,10 +21,10 @@ pub fn show(n: u64, v: Verdict, out: &[u8]) {
     match v {
         Verdict::Passed => {}
         Verdict::Agrees => {}
-        Verdict::Differs(number, bytes, cost, nodes) => {
+        Verdict::Differs(number, bytes, cost, never, nodes) => {
             let length = bytes as usize;
             if length <= out.len() {
-                show_differing(n, number, &out[..length], cost, nodes);
+                show_differing(n, number, &out[..length], cost, never, nodes);
             }
         }
         Verdict::Broken => {

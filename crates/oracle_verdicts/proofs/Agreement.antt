@@ -12,7 +12,7 @@ use lib.Seq.{drop-cons, drop-length, take-append-seam}
 use Rattle.memory.specs.Layout.{workWords}
 use Rattle.definition.specs.AnswersOfTheRust.{sameBytes}
 use Rattle.definition.specs.Compile.{Outcome, compiled, refusedWith, compile}
-use Rattle.claspwillow.specs.Promises.{numberOfOutcome, outputAfter, bytesWritten, costGiven, nodesUsed, given, CompilePromise}
+use Rattle.claspwillow.specs.Promises.{numberOfOutcome, outputAfter, bytesWritten, costGiven, neverGiven, nodesUsed, given, CompilePromise}
 use Rattle.oracle_lines.specs.Lines.{Line, passed, broken, says}
 use Rattle.oracle_lines.specs.Reads.{saidIn, Tells, passes, tells, breaks}
 use Rattle.oracle_verdicts.specs.Verdicts.{outputOf, agrees, judged, Judges, AgreesMeans}
@@ -47,15 +47,17 @@ judged-agrees true o e = refl
 judged-agrees false o e = absurd (let z : _≡_ {A = ℕ} 0 1 = cc in omega arith)
 
 pub agrees-means : AgreesMeans
-agrees-means room context policy number output cost nodes e =
+agrees-means room context policy number output cost never nodes e =
     let o : Outcome = compile context true policy room in
-    let all : agrees o number output cost nodes ≡ true = judged-agrees (agrees o number output cost nodes) o e in
+    let all : agrees o number output cost never nodes ≡ true = judged-agrees (agrees o number output cost never nodes) o e in
     let rest = right-true (eqb (numberOfOutcome o) number) _ all in
-    let last = right-true (sameBytes (outputOf o) output) _ rest in (
+    let last = right-true (sameBytes (outputOf o) output) _ rest in
+    let told = left-true (eqb (costGiven o) cost && eqb (neverGiven o) never) _ last in (
       eqb-true (numberOfOutcome o) number (left-true _ _ all),
       same-means (outputOf o) output (left-true _ _ rest),
-      eqb-true (costGiven o) cost (left-true _ _ last),
-      eqb-true (nodesUsed o) nodes (right-true (eqb (costGiven o) cost) _ last),
+      eqb-true (costGiven o) cost (left-true _ _ told),
+      eqb-true (neverGiven o) never (right-true (eqb (costGiven o) cost) _ told),
+      eqb-true (nodesUsed o) nodes (right-true (eqb (costGiven o) cost && eqb (neverGiven o) never) _ last),
     )
 
 -- ---- what the port gives
@@ -70,8 +72,8 @@ written-outcome (compiled bytes cost nodes) out = take-append-seam bytes (drop (
 written-outcome (refusedWith n) out = refl
 
 module _
-    (context : ℕ) (policy out work : List ℕ) {got : ℕ} {left : List ℕ} {bytes cost nodes : ℕ} {after : List ℕ}
-    (p : CompilePromise context policy out work got left bytes cost nodes after)
+    (context : ℕ) (policy out work : List ℕ) {got : ℕ} {left : List ℕ} {bytes cost never nodes : ℕ} {after : List ℕ}
+    (p : CompilePromise context policy out work got left bytes cost never nodes after)
   where
     pub bytes-fit : length left ≡ length out → bytes ≤ length left
     bytes-fit long =
@@ -95,6 +97,9 @@ module _
       cost-is : cost ≡ costGiven o
       cost-is = p .costs ∙ ap costGiven defined
 
+      never-is : never ≡ neverGiven o
+      never-is = p .tells ∙ ap neverGiven defined
+
       nodes-is : nodes ≡ nodesUsed o
       nodes-is = p .uses ∙ ap nodesUsed defined
 
@@ -104,15 +109,15 @@ module _
       output-is : take bytes left ≡ outputOf o
       output-is = ap (λ (n : ℕ). take n left) bytes-is ∙ ap (take (bytesWritten o)) left-is ∙ written-outcome o out
 
-      module _ (number : ℕ) (output : List ℕ) (cost′ nodes′ : ℕ) where
+      module _ (number : ℕ) (output : List ℕ) (cost′ never′ nodes′ : ℕ) where
         abbrev compared : Bool
-        compared = eqb got number && (sameBytes (take bytes left) output && (eqb cost cost′ && eqb nodes nodes′))
+        compared = eqb got number && (sameBytes (take bytes left) output && ((eqb cost cost′ && eqb never never′) && eqb nodes nodes′))
 
-        compared-is : compared ≡ agrees o number output cost′ nodes′
-        compared-is = cc (number-is, output-is, cost-is, nodes-is)
+        compared-is : compared ≡ agrees o number output cost′ never′ nodes′
+        compared-is = cc (number-is, output-is, cost-is, never-is, nodes-is)
 
         pub judges-agrees : {t : Bool} → t ≡ compared → t ≡ true
-            → Judges (says context policy number output cost′ nodes′) out work Verdict.Agrees left after
+            → Judges (says context policy number output cost′ never′ nodes′) out work Verdict.Agrees left after
         judges-agrees e h = record {
           verdict = sym (ap (λ (t : Bool). judged t o) (sym compared-is ∙ sym e ∙ h));
           writes = left-is;
@@ -120,9 +125,9 @@ module _
         }
 
         pub judges-differs : {t : Bool} → t ≡ compared → t ≡ false
-            → Judges (says context policy number output cost′ nodes′) out work (Verdict.Differs got bytes cost nodes) left after
+            → Judges (says context policy number output cost′ never′ nodes′) out work (Verdict.Differs got bytes cost never nodes) left after
         judges-differs e h = record {
-          verdict = cc (number-is, bytes-is, cost-is, nodes-is) ∙ sym (ap (λ (t : Bool). judged t o) (sym compared-is ∙ sym e ∙ h));
+          verdict = cc (number-is, bytes-is, cost-is, never-is, nodes-is) ∙ sym (ap (λ (t : Bool). judged t o) (sym compared-is ∙ sym e ∙ h));
           writes = left-is;
           clears = p .clears;
         }

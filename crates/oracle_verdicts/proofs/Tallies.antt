@@ -30,7 +30,7 @@ pub record OneMore (t t′ : Tally) : Type 0 where
 one-more : (t : Tally) (v : Verdict) → OneMore t (counted t v)
 one-more t Verdict.Passed = record { agree = omega arith; differ = omega arith; broken = omega arith }
 one-more t Verdict.Agrees = record { agree = omega arith; differ = omega arith; broken = omega arith }
-one-more t (Verdict.Differs number bytes cost nodes) = record { agree = omega arith; differ = omega arith; broken = omega arith }
+one-more t (Verdict.Differs number bytes cost never nodes) = record { agree = omega arith; differ = omega arith; broken = omega arith }
 one-more t Verdict.Broken = record { agree = omega arith; differ = omega arith; broken = omega arith }
 
 pub part-short : (s : List ℕ) (from to : ℕ) → length (part s from to) ≤ length s

@@ -9,7 +9,7 @@ use Rattle.memory.specs.Layout.{workWords}
 use Rattle.words.specs.Memory.{zeroed}
 use Rattle.definition.specs.AnswersOfTheRust.{sameBytes}
 use Rattle.definition.specs.Compile.{Outcome, compiled, refusedWith, compile}
-use Rattle.claspwillow.specs.Promises.{numberOfOutcome, outputAfter, bytesWritten, costGiven, nodesUsed}
+use Rattle.claspwillow.specs.Promises.{numberOfOutcome, outputAfter, bytesWritten, costGiven, neverGiven, nodesUsed}
 use Rattle.oracle_lines.specs.Lines.{Line, passed, broken, says, newline, split, lineOf}
 use Rattle.oracle_verdicts.specs.declared.Verdict.{Verdict}
 use Rattle.oracle_verdicts.specs.declared.Verdict.the-variants as Verdict
@@ -22,32 +22,32 @@ outputOf (refusedWith n) = []
 
 -- ---- a line
 
--- an outcome has exactly a number, an output, the bits of a cost and a count of nodes
-abbrev pub agrees : Outcome → (number : ℕ) → (output : List ℕ) → (cost nodes : ℕ) → Bool
-agrees o number output cost nodes =
-    eqb (numberOfOutcome o) number && (sameBytes (outputOf o) output && (eqb (costGiven o) cost && eqb (nodesUsed o) nodes))
+-- an outcome has exactly a number, an output, the bits of a cost, its flag of never, and a count of nodes
+abbrev pub agrees : Outcome → (number : ℕ) → (output : List ℕ) → (cost never nodes : ℕ) → Bool
+agrees o number output cost never nodes =
+    eqb (numberOfOutcome o) number && (sameBytes (outputOf o) output && ((eqb (costGiven o) cost && eqb (neverGiven o) never) && eqb (nodesUsed o) nodes))
 
 abbrev pub judged : Bool → Outcome → Verdict
 judged true o = Verdict.Agrees
-judged false o = Verdict.Differs (numberOfOutcome o) (bytesWritten o) (costGiven o) (nodesUsed o)
+judged false o = Verdict.Differs (numberOfOutcome o) (bytesWritten o) (costGiven o) (neverGiven o) (nodesUsed o)
 
 -- what the definition of compile makes of a line, with so many bytes of room for the output
 abbrev pub verdictOf : (room : ℕ) → Line → Verdict
 verdictOf room passed = Verdict.Passed
 verdictOf room broken = Verdict.Broken
-verdictOf room (says context policy number output cost nodes) =
-    judged (agrees (compile context true policy room) number output cost nodes) (compile context true policy room)
+verdictOf room (says context policy number output cost never nodes) =
+    judged (agrees (compile context true policy room) number output cost never nodes) (compile context true policy room)
 
 -- the output and work memory after a line
 abbrev pub outAfter : Line → List ℕ → List ℕ
 outAfter passed out = out
 outAfter broken out = out
-outAfter (says context policy number output cost nodes) out = outputAfter (compile context true policy (length out)) out
+outAfter (says context policy number output cost never nodes) out = outputAfter (compile context true policy (length out)) out
 
 abbrev pub workAfter : Line → List ℕ → List ℕ
 workAfter passed work = work
 workAfter broken work = work
-workAfter (says context policy number output cost nodes) work = zeroed work
+workAfter (says context policy number output cost never nodes) work = zeroed work
 
 -- a line was judged, with an output and work memory that were lent
 pub record Judges (l : Line) (out work : List ℕ) (v : Verdict) (out′ work′ : List ℕ) : Type 0 where
@@ -58,11 +58,12 @@ pub record Judges (l : Line) (out work : List ℕ) (v : Verdict) (out′ work′
 -- An answer that agrees is the definition's.
 abbrev pub AgreesMeans : Type 0
 AgreesMeans =
-    (room context : ℕ) (policy : List ℕ) (number : ℕ) (output : List ℕ) (cost nodes : ℕ)
-    → verdictOf room (says context policy number output cost nodes) ≡ Verdict.Agrees
+    (room context : ℕ) (policy : List ℕ) (number : ℕ) (output : List ℕ) (cost never nodes : ℕ)
+    → verdictOf room (says context policy number output cost never nodes) ≡ Verdict.Agrees
     → (numberOfOutcome (compile context true policy room) ≡ number)
     × (outputOf (compile context true policy room) ≡ output)
     × (costGiven (compile context true policy room) ≡ cost)
+    × (neverGiven (compile context true policy room) ≡ never)
     × (nodesUsed (compile context true policy room) ≡ nodes)
 
 -- ---- a list
@@ -74,7 +75,7 @@ none-yet = record { agree = 0; differ = 0; broken = 0 }
 abbrev pub counted : Tally → Verdict → Tally
 counted t Verdict.Passed = t
 counted t Verdict.Agrees = record { agree = t .agree + 1; differ = t .differ; broken = t .broken }
-counted t (Verdict.Differs number bytes cost nodes) = record { agree = t .agree; differ = t .differ + 1; broken = t .broken }
+counted t (Verdict.Differs number bytes cost never nodes) = record { agree = t .agree; differ = t .differ + 1; broken = t .broken }
 counted t Verdict.Broken = record { agree = t .agree; differ = t .differ; broken = t .broken + 1 }
 
 -- the counts after some lines more

@@ -13,11 +13,11 @@ use oracle_lines::Case;
 use oracle_lines::Said;
 use oracle_lines::read_line;
 
-// What comes of a line. Where it differs: the number, the length of the output, the bits of the cost and the nodes that the port gave.
+// What comes of a line. Where it differs: the number, the length of the output, the bits of the cost, whether it is never, and the nodes that the port gave.
 pub enum Verdict {
     Passed,
     Agrees,
-    Differs(u32, u64, u64, u64),
+    Differs(u32, u64, u64, u32, u64),
     Broken,
 }
 
@@ -37,6 +37,7 @@ fn judge_case(said: Said, policy: &[u8], stored: &[u8], out: &mut [u8], work: &m
     let o = said.output;
     let mut bytes = 0;
     let mut cost = 0;
+    let mut never = 0;
     let mut nodes = 0;
     let number = claspwillow::claspwillow_compile(
         said.context,
@@ -45,13 +46,14 @@ fn judge_case(said: Said, policy: &[u8], stored: &[u8], out: &mut [u8], work: &m
         work,
         &mut bytes,
         &mut cost,
+        &mut never,
         &mut nodes,
     );
     let n = bytes as usize;
-    if agrees(said, number, &out[..n], &stored[..o], cost, nodes) {
+    if agrees(said, number, &out[..n], &stored[..o], cost, never, nodes) {
         return Verdict::Agrees;
     }
-    Verdict::Differs(number, bytes, cost, nodes)
+    Verdict::Differs(number, bytes, cost, never, nodes)
 }
 
 // What comes of a line: rooms for a policy and an output, each of at least half the line, an output and work memory are lent.
@@ -84,7 +86,7 @@ pub fn counted(t: Tally, v: Verdict) -> Tally
             differ: t.differ,
             broken: t.broken,
         },
-        Verdict::Differs(_, _, _, _) => Tally {
+        Verdict::Differs(_, _, _, _, _) => Tally {
             agree: t.agree,
             differ: t.differ + 1,
             broken: t.broken,

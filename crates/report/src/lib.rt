@@ -15,6 +15,8 @@ use records::Shape;
 use types::Type;
 use types::Unpacked;
 
+mod amounts;
+
 // Writes a text.
 fn say(text: &[u8]) -> bool {
     io::write_all(STDOUT_FILENO, text)
@@ -76,13 +78,22 @@ fn show_meaning(number: u32) -> bool {
     }
 }
 
-// The lines of what a compilation gives, but for the tree.
-fn show_given(bytes: u64, cost: u64, nodes: u64) -> bool {
-    let first = say_line(b"bytes", bytes);
-    let second = say(b"cost ");
+// The line of a cost: `never`, or its bits and its number.
+fn show_cost(cost: u64, never: u32) -> bool {
+    if never == 1 {
+        return say(b"cost never\n");
+    }
+    let worded = say(b"cost ");
     let digits = io::print_hex(STDOUT_FILENO, cost, 16);
-    let ended = say(b"\n");
-    say_line(b"nodes", nodes) & first & second & digits & ended
+    let numbered = amounts::say_amount(cost);
+    say(b"\n") & worded & digits & numbered
+}
+
+// The lines of what a compilation gives, but for the tree.
+fn show_given(bytes: u64, cost: u64, never: u32, nodes: u64) -> bool {
+    let first = say_line(b"bytes", bytes);
+    let second = show_cost(cost, never);
+    say_line(b"nodes", nodes) & first & second
 }
 
 // The line of a type.
@@ -221,9 +232,9 @@ pub fn show_refusal(number: u32) {
 }
 
 // Shows the answer to a policy that is compiled: what it gives, and its tree.
-pub fn show_compiled(cost: u64, nodes: u64, tree: &[u8]) {
+pub fn show_compiled(cost: u64, never: u32, nodes: u64, tree: &[u8]) {
     let first = show_number(0);
-    let given = show_given(tree.len() as u64, cost, nodes);
+    let given = show_given(tree.len() as u64, cost, never, nodes);
     say_unless(show_tree(tree) & first & given);
 }
 

@@ -21,7 +21,7 @@ use Rattle.definition.specs.Refusals.{M, State, Stored, done, refused, then}
 use Rattle.definition.specs.Insertion.{insertClosure}
 use Rattle.definition.specs.Search.{Again, search, without, wrapped, wrappedIfMade, castsOf, forEach, insertedIfTyped}
 use Rattle.definition_laws.specs.Bodies.{againFor, againIn}
-use Rattle.definition_laws.proofs.Steps.{then-done, then-refused, then-then, castsOf-none, castsOf-next, wrapped-never, wrapped-redo}
+use Rattle.definition_laws.proofs.Steps.{then-done, then-refused, then-then, castsOf-none, castsOf-next, wrapped-alone, wrapped-redo}
 use Rattle.nodes.specs.Views.{offered}
 use Rattle.nodes.proofs.Casts.{casts-from}
 use Rattle.table.specs.declared.Table.{Table}
@@ -123,7 +123,7 @@ module _ (C : Context) (sat : Float) {pol : List ℕ} {r : ℕ} {dissat : Dissat
   wrapped-plain is =
       starts h _ e
       (tabled-as
-      (sym (wrapped-never C (probs sat dissat) (offered pol m₀ x) (seenTable pol m₀ (c .table)) (stateIn pol m₀))
+      (sym (wrapped-alone C (probs sat dissat) (offered pol m₀ x) (seenTable pol m₀ (c .table)) (stateIn pol m₀))
       ∙ ap (λ (d : DissatProb). wrapped C (probs sat dissat) (againFor C (policyAt pol r) (probs sat dissat) d) (offered pol m₀ x)
       (seenTable pol m₀ (c .table)) (stateIn pol m₀)) (sym is))
       (closes-tabled (h .ready) closes))

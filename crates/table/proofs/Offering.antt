@@ -8,7 +8,7 @@ use borrow.Author.Tests.{le-leb, lt-leb}
 use lib.Dec.{leb}
 use lib.ListN.{length, length-map}
 use Rattle.contexts.specs.declared.Context.{Context}
-use Rattle.words.specs.Floats.{isCost}
+use Rattle.costs.specs.Price.{isPrice}
 use Rattle.figures.specs.Bounds.{Small}
 use Rattle.figures.specs.Validity.{checkLocalValidity}
 use Rattle.figures.proofs.Entering.{candidate-small}
@@ -63,7 +63,7 @@ pub record Worth (c : Context) (x : code.Candidate) : Type 0 where
 -- it is compared by y, and has a cost
 pub record Costed (p : Probs) (x : code.Candidate) (y : Priced) : Type 0 where
   pub priced : y ≡ pricedAs p x
-  pub cost : isCost (y .cost) ≡ true
+  pub cost : isPrice (y .cost) ≡ true
 
 -- no entry of t beats it, and u is what it leaves of t
 pub record Leaves (m : List ℕ) (p : Probs) (y : Priced) (t u : Table) : Type 0 where
@@ -77,9 +77,9 @@ is-worth {c} {x} w pol m = worthwhile-is pol m x c ∙ both (w .sound) (w .valid
     both : {a b : Bool} → a ≡ true → b ≡ true → (a && b) ≡ true
     both h k = rw (h, k)
 
-is-cost : (p : Probs) (x : code.Candidate) {y : Priced} {b : Bool} → y ≡ pricedAs p x → isCost (y .cost) ≡ b → (pol m : List ℕ)
-    → isCost (costAt p (offered pol m x)) ≡ b
-is-cost p x priced i pol m = ap isCost (cost-is pol m x p ∙ sym (ap (λ (y : Priced). y .cost) priced)) ∙ i
+is-cost : (p : Probs) (x : code.Candidate) {y : Priced} {b : Bool} → y ≡ pricedAs p x → isPrice (y .cost) ≡ b → (pol m : List ℕ)
+    → isPrice (costAt p (offered pol m x)) ≡ b
+is-cost p x priced i pol m = ap isPrice (cost-is pol m x p ∙ sym (ap (λ (y : Priced). y .cost) priced)) ∙ i
 
 -- ---- the cases
 
@@ -100,7 +100,7 @@ module _ {c : Context} {p : Probs} {x : code.Candidate} {t : Table} {m : List �
   invalid n v =
       stays (λ pol ts. insert-unworthy c p (offered pol m x) (seenTable pol m t) (stateOf m ts) (worthwhile-is pol m x c ∙ rw (n, v)))
 
-  pub costless : {y : Priced} → Worth c x → y ≡ pricedAs p x → isCost (y .cost) ≡ false
+  pub costless : {y : Priced} → Worth c x → y ≡ pricedAs p x → isPrice (y .cost) ≡ false
       → Inserted c p x t (record { table = t; offer = Refused 10 }) m m
   costless w priced i =
       record {
@@ -112,7 +112,7 @@ module _ {c : Context} {p : Probs} {x : code.Candidate} {t : Table} {m : List �
       }
 
   module _ {y : Priced} (w : Worth c x) (k : Costed p x y) where
-    cost : (pol : List ℕ) → isCost (costAt p (offered pol m x)) ≡ true
+    cost : (pol : List ℕ) → isPrice (costAt p (offered pol m x)) ≡ true
     cost pol = is-cost p x (k .priced) (k .cost) pol m
 
     compared-by : (pol : List ℕ) → pricedOf p (offered pol m x) ≡ y

@@ -1,18 +1,15 @@
--- Laws on a float's word and on costs. Crates above cite `float-again`, `word-again`, `cost-le-bits`, `cost-le-total`, `cost-le-trans`
--- and `cost-le-antisym`. Assumes nothing.
-use mathlib.Core.Path.{_≡_, refl, sym, subst, ap, _∙_}
-use mathlib.Core.Bool.{Bool, true, false, not, _&&_}
-use mathlib.Core.Logic.{_⊎_, inl, inr}
+-- Laws on a float's word and on costs. Crates above cite `float-again`, `word-again`, `above-infinity` and `sign-clear`. Assumes nothing.
+use mathlib.Core.Path.{_≡_, refl, sym, subst, _∙_}
+use mathlib.Core.Bool.{true, false, not}
 use Prim.Native.Nat.{ℕ, _%_, _<_, _≤_, _+_, _*_, _^_, _/_, _-_}
-use native.Mathlib.Nat.{le-antisymm}
 use native.Mathlib.Omega.{arith}
-use borrow.Author.Tests.{lt-ltb, le-ltb, leb-true, leb-false}
-use lib.Dec.{T, ltb, leb, leb→le, le→leb}
+use borrow.Author.Tests.{lt-ltb, le-ltb}
+use lib.Dec.{T, ltb}
 use lib.Ieee.{Float, nan, inf, fin, binary64, ne, neg, isNan, fits, toBits, ofBits, nanBits, up, down, low, prec, hid, size}
 use lib.Ieee.Compare.{differs-from-itself, nan-differs}
-use lib.Ieee.Bits.{nanBits-is, nanBits-above, toBits-lt, ofBits-toBits, toBits-ofBits, is-true}
-use lib.Ieee.Fits.{neg-fits, and-l, and-r}
-use Rattle.words.specs.Floats.{wordOfFloat, floatOfWord, isCost, costLe}
+use lib.Ieee.Bits.{nanBits-is, nanBits-above, toBits-lt, ofBits-toBits, toBits-ofBits}
+use lib.Ieee.Fits.{neg-fits}
+use Rattle.words.specs.Floats.{wordOfFloat, floatOfWord, isCost}
 
 -- ---- a float as a word
 
@@ -71,37 +68,3 @@ sign-clear (fin false m e) f n =
   where
     clear-bit : (a b : ℕ) → 0x8000_0000_0000_0000 + a + b < 2 * 0x8000_0000_0000_0000 → 0 + a + b < 0x8000_0000_0000_0000
     clear-bit a b h = omega arith
-
--- ---- the order of costs
-
-pub cost-le-bits : (a b : Float) → isCost a ≡ true → isCost b ≡ true → costLe a b ≡ leb (wordOfFloat a) (wordOfFloat b)
-cost-le-bits a b p q = rw (p, q)
-
-both-costs : (a b : Float) → T (costLe a b) → (isCost a ≡ true) × (isCost b ≡ true) × (wordOfFloat a ≤ wordOfFloat b)
-both-costs a b h =
-    let q = and-r (isCost a) (isCost b && leb (wordOfFloat a) (wordOfFloat b)) h in (
-      is-true (isCost a) (and-l (isCost a) (isCost b && leb (wordOfFloat a) (wordOfFloat b)) h),
-      is-true (isCost b) (and-l (isCost b) (leb (wordOfFloat a) (wordOfFloat b)) q),
-      leb→le (wordOfFloat a) (wordOfFloat b) (and-r (isCost b) (leb (wordOfFloat a) (wordOfFloat b)) q),
-    )
-
-cost-le : (a b : Float) → isCost a ≡ true → isCost b ≡ true → wordOfFloat a ≤ wordOfFloat b → T (costLe a b)
-cost-le a b p q h = rw (cost-le-bits a b p q) (le→leb (wordOfFloat a) (wordOfFloat b) h)
-
-pub cost-le-total : (a b : Float) → isCost a ≡ true → isCost b ≡ true → T (costLe a b) ⊎ T (costLe b a)
-cost-le-total a b p q = by-test (leb (wordOfFloat a) (wordOfFloat b)) refl
-  where
-    by-test : (t : Bool) → leb (wordOfFloat a) (wordOfFloat b) ≡ t → T (costLe a b) ⊎ T (costLe b a)
-    by-test true e = inl (cost-le a b p q (leb-true (wordOfFloat a) (wordOfFloat b) e))
-    by-test false e = inr (cost-le b a q p (omega (arith, leb-false (wordOfFloat a) (wordOfFloat b) e)))
-
-pub cost-le-trans : (a b c : Float) → T (costLe a b) → T (costLe b c) → T (costLe a c)
-cost-le-trans a b c h k =
-    let p = both-costs a b h in
-    let q = both-costs b c k in
-    cost-le a c (p .0) (q .1) (omega (arith, p .2, q .2))
-
-pub cost-le-antisym : (a b : Float) → T (fits binary64 a) → T (fits binary64 b) → T (costLe a b) → T (costLe b a) → a ≡ b
-cost-le-antisym a b f g h k =
-    let e : wordOfFloat a ≡ wordOfFloat b = le-antisymm (both-costs a b h .2) (both-costs b a k .2) in
-    sym (float-again a f) ∙ ap floatOfWord e ∙ float-again b g

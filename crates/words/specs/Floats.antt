@@ -1,8 +1,7 @@
--- A float as one word of memory, what a cost is and how costs order: document 01, "Numbers the console shows" (the bits of the root's
--- cost; NotACost, number 10) and "Modules, leaves first", 5 (costs order as their bits do). Assumes nothing.
-use mathlib.Core.Bool.{Bool, true, false, not, _&&_}
+-- A float as one word of memory, and what a cost is: document 01, "Numbers the console shows" (the bits of the root's cost; NotACost,
+-- number 10). Assumes nothing.
+use mathlib.Core.Bool.{Bool, false, not}
 use Prim.Native.Nat.{ℕ}
-use lib.Dec.{leb}
 use lib.Ieee.{Float, nan, inf, fin, binary64, toBits, ofBits}
 
 -- the bits of a float; every NaN has the bits 0x7ff8_0000_0000_0000
@@ -18,7 +17,3 @@ abbrev pub isCost : Float → Bool
 isCost nan = false
 isCost (inf sign) = not sign
 isCost (fin sign mantissa exponent) = not sign
-
--- two costs in the order of their bits
-abbrev pub costLe : Float → Float → Bool
-costLe a b = isCost a && (isCost b && leb (wordOfFloat a) (wordOfFloat b))

@@ -1,10 +1,10 @@
-// What a word and a byte hold, for every crate above: an f64 in a u64 and back, which floats are costs and how costs order,
-// little-endian numbers in a slice of bytes, and the clearing of work memory.
+// What a word and a byte hold, for every crate above: an f64 in a u64 and back, which floats are costs, little-endian numbers in a slice of
+// bytes, and the clearing of work memory.
 //
 // Its contracts cite `specs/Floats.antt`, `specs/Bytes.antt`, `specs/Answers.antt` and `specs/Memory.antt`. The laws that crates above
 // cite stand in `proofs/Floats.antt`, `proofs/Bytes.antt`, `proofs/Stores.antt` and `proofs/Packing.antt`.
 ghost use mathlib.Core.Path.{_≡_};
-ghost use Rattle.words.specs.Floats.{wordOfFloat, floatOfWord, isCost, costLe};
+ghost use Rattle.words.specs.Floats.{wordOfFloat, floatOfWord, isCost};
 ghost use Rattle.words.specs.Bytes.{hasBytes, leAt, putLe};
 ghost use Rattle.words.specs.Answers.{read16, read32};
 ghost use Rattle.words.specs.Memory.{zeroed};
@@ -48,20 +48,6 @@ pub fn is_cost(x: f64) -> bool
     }
     let bits = f64::to_bits(x);
     bits < SIGN_WORD
-}
-
-// Whether cost a is at most cost b; false where either is no cost.
-pub fn cost_le(a: f64, b: f64) -> bool
-    ensures { λ r. ⌜ r ≡ costLe a b ⌝ }
-{
-    if is_cost(a) {
-        if is_cost(b) {
-            let x = word_of_float(a);
-            let y = word_of_float(b);
-            return x <= y;
-        }
-    }
-    false
 }
 
 // What reading a u16 finds.

@@ -17,8 +17,8 @@ price-requires c κs = search needs
 price-requires-2 : tie.Need-price-requires-2
 price-requires-2 c κs = search needs
 
-cost-le-requires : tie.Need-cost-le-requires
-cost-le-requires c κs = search needs
+at-most-requires : tie.Need-at-most-requires
+at-most-requires c κs = search needs
 
 returns : tie.Need-returns
 returns c = simp (c .enum-told .given .1)
@@ -29,9 +29,9 @@ returns-2 c =
     let best = c .before .before .before .before .before .best in
     let price = c .before .before .before .price in
     let price2 = c .before .before .price2 in
-    let cost-le = c .before .cost-le in
+    let at-most = c .before .at-most in
     cheaper-first (args .work .now) (probs (args .sat) (args .dissat)) (args .e) _ (best .given .1) (price .ensures) (price2 .ensures)
-    (cost-le .ensures) (c .if1 .taken)
+    (at-most .ensures) (c .if1 .taken)
 
 returns-3 : tie.Need-returns-3
 returns-3 c =
@@ -39,9 +39,9 @@ returns-3 c =
     let best = c .before .before .before .before .before .best in
     let price = c .before .before .before .price in
     let price2 = c .before .before .price2 in
-    let cost-le = c .before .cost-le in
+    let at-most = c .before .at-most in
     cheaper-second (args .work .now) (probs (args .sat) (args .dissat)) (args .e) _ (best .given .1) (price .ensures) (price2 .ensures)
-    (cost-le .ensures) (c .if1 .left)
+    (at-most .ensures) (c .if1 .left)
 
 pub cheaper-spec : {M : Type 1} → statement M
 cheaper-spec =
@@ -51,7 +51,7 @@ cheaper-spec =
     enum-known-best
     price-requires
     price-requires-2
-    cost-le-requires
+    at-most-requires
     returns
     returns-2
     returns-3)

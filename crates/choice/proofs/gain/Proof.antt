@@ -9,8 +9,11 @@ price-requires c κs = search needs
 price-requires-2 : tie.Need-price-requires-2
 price-requires-2 c κs = search needs
 
+excess-requires : tie.Need-excess-requires
+excess-requires c κs = search needs
+
 returns : tie.Need-returns
-returns c = simp (c .before .price .ensures, c .price2 .ensures)
+returns c = simp (c .excess .ensures, c .before .before .price .ensures, c .before .price2 .ensures)
 
 pub gain-spec : {M : Type 1} → statement M
-gain-spec = tie.close (tie.spec price-requires price-requires-2 returns)
+gain-spec = tie.close (tie.spec price-requires price-requires-2 excess-requires returns)

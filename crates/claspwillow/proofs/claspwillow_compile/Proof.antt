@@ -18,6 +18,9 @@ bytes-of-requires c κs = search needs
 cost-of-requires : tie.Need-cost-of-requires
 cost-of-requires c κs = search needs
 
+never-of-requires : tie.Need-never-of-requires
+never-of-requires c κs = search needs
+
 nodes-of-requires : tie.Need-nodes-of-requires
 nodes-of-requires c κs = search needs
 
@@ -32,9 +35,9 @@ same-length-2 c = search needs
 
 returns : tie.Need-returns
 returns c =
-    let args = c .before .before .before .before .before .before .before .before .before .before .before .before .before .before .before .before .before .before .args in
-    let answer = c .before .before .before .before .before .before .before .before .before .before .before .before .compile-numbered in
-    let clear = c .before .before .before .before .before .before .clear in
+    let args = c .before .before .before .before .before .before .before .before .before .before .before .before .before .before .before .before .before .before .before .args in
+    let answer = c .before .before .before .before .before .before .before .before .before .before .before .before .before .compile-numbered in
+    let clear = c .before .before .before .before .before .before .before .clear in
     let worked = answer .last .1 .1 .1 .0 in
     let same : length worked ≡ length (args .work .now) = search needs in
     promised
@@ -45,8 +48,9 @@ returns c =
     worked
     (answer .ensures)
     (c .number-of .ensures)
-    (c .before .before .before .bytes-of .ensures)
-    (c .before .before .cost-of .ensures)
+    (c .before .before .before .before .bytes-of .ensures)
+    (c .before .before .before .cost-of .ensures)
+    (c .before .before .never-of .ensures)
     (c .before .nodes-of .ensures)
     same
     (clear .ensures)
@@ -59,6 +63,7 @@ claspwillow-compile-spec =
     clear-requires
     bytes-of-requires
     cost-of-requires
+    never-of-requires
     nodes-of-requires
     number-of-requires
     same-length

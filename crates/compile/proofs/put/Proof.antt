@@ -4,8 +4,14 @@ use borrow.Author.Needs.{needs}
 use Rattle.compile.proofs.put.Statement.{statement}
 use Rattle.compile.proofs.put.Tie as tie
 
-cost-bits-requires : tie.Need-cost-bits-requires
-cost-bits-requires c κs = search needs
+price-requires : tie.Need-price-requires
+price-requires c κs = search needs
+
+bits-requires : tie.Need-bits-requires
+bits-requires c κs = search needs
+
+never-requires : tie.Need-never-requires
+never-requires c κs = search needs
 
 count-requires : tie.Need-count-requires
 count-requires c κs = search needs
@@ -23,19 +29,21 @@ same-length : tie.Need-same-length
 same-length c = search needs
 
 returns : tie.Need-returns
-returns c = puts (c .before .before .before .before .before .before .before .before .before .before .before .before .pre) (c .before .before .before .before .before .before .before .before .before .before .before .before .args .out .now) _ (c .before .before .before .before .before .write .ensures) _ (c .before .n .given .1) (c .before .before .before .before .before .before .before .before .cost-bits .ensures) (c .before .before .before .before .before .before .before .count .ensures)
+returns c = puts (c .before .before .before .before .before .before .before .before .before .before .before .before .before .before .pre) (c .before .before .before .before .before .before .before .before .before .before .before .before .before .before .args .out .now) _ (c .before .before .before .before .before .write .ensures) _ (c .before .n .given .1) (c .before .before .before .before .before .before .before .before .before .before .price .ensures) (c .before .before .before .before .before .before .before .before .before .bits .ensures) (c .before .before .before .before .before .before .before .before .never .ensures) (c .before .before .before .before .before .before .before .count .ensures)
 
 same-length-2 : tie.Need-same-length-2
 same-length-2 c = search needs
 
 returns-2 : tie.Need-returns-2
-returns-2 c = puts-nothing (c .before .before .before .before .before .before .before .before .before .before .before .pre) (c .before .before .before .before .before .before .before .before .before .before .before .args .out .now) _ (c .before .before .before .before .write .ensures) (c .enum-told .given .1)
+returns-2 c = puts-nothing (c .before .before .before .before .before .before .before .before .before .before .before .before .before .pre) (c .before .before .before .before .before .before .before .before .before .before .before .before .before .args .out .now) _ (c .before .before .before .before .write .ensures) (c .enum-told .given .1)
 
 pub put-spec : {M : Type 1} → statement M
 put-spec =
     tie.close
     (tie.spec
-    cost-bits-requires
+    price-requires
+    bits-requires
+    never-requires
     count-requires
     write-requires
     enum-known-n

@@ -1,8 +1,8 @@
 -- `oracle_lines::case_in` meets its contract: one word after the other, and the first that says nothing breaks the line. Assumes nothing.
 use mathlib.Core.Path.{sym, ap, _∙_}
 use native.Mathlib.Omega.{arith}
-use Rattle.oracle_lines.specs.Reads.{tells}
-use Rattle.numerals.specs.Numbers.{found32, found64}
+use Rattle.oracle_lines.specs.Reads.{foundCost, tells}
+use Rattle.numerals.specs.Numbers.{found32}
 use Rattle.oracle_lines.proofs.Cases.{told-bytes, told-no-bytes, stops-0, stops-1, stops-2, stops-3, stops-4, stops-5, says-all}
 use borrow.Author.Needs.{needs}
 use Rattle.oracle_lines.proofs.case_in.Statement.{statement}
@@ -121,14 +121,14 @@ returns-4 c =
     (sym (decimal-at .ensures) ∙ ap found32 (context .given .1)) (told-bytes (records-at .ensures) (p .given .1) .0)
     (sym (decimal-at2 .ensures) ∙ ap found32 (number .given .1)) (told-no-bytes (records-at2 .ensures) (enum-told4 .given .1))
 
-add-bits-at : tie.Need-add-bits-at
-add-bits-at c =
+add-cost-at : tie.Need-add-cost-at
+add-cost-at c =
     let early = c .before .before .before .before .before .before .before .before .before .before .before .before in
     let pre = early .before .before .before .before .before .before .before .before .before .before .before .before .before .pre in
     omega (arith, pre .0 .de)
 
-bits-at-requires : tie.Need-bits-at-requires
-bits-at-requires c κs = search needs
+cost-at-requires : tie.Need-cost-at-requires
+cost-at-requires c κs = search needs
 
 enum-known-cost : tie.Need-enum-known-cost
 enum-known-cost c = search needs
@@ -155,12 +155,12 @@ returns-5 c =
     let number = c .before .before .before .before .before .before .before .before .before .before .before .number in
     let records-at2 = c .before .before .before .before .before .before .before .before .records-at2 in
     let o = c .before .before .before .before .o in
-    let bits-at = c .before .before .bits-at in
+    let cost-at = c .before .before .cost-at in
     let enum-told5 = c .enum-told5 in
     stops-4 (args .line .now) (args .a) (args .b) (args .c) (args .d) (args .e) _ _
     (sym (decimal-at .ensures) ∙ ap found32 (context .given .1)) (told-bytes (records-at .ensures) (p .given .1) .0)
     (sym (decimal-at2 .ensures) ∙ ap found32 (number .given .1)) (told-bytes (records-at2 .ensures) (o .given .1) .0)
-    (sym (bits-at .ensures) ∙ ap found64 (enum-told5 .given .1))
+    (sym (cost-at .ensures) ∙ ap foundCost (enum-told5 .given .1))
 
 decimal-at-requires-3 : tie.Need-decimal-at-requires-3
 decimal-at-requires-3 c κs =
@@ -194,14 +194,14 @@ returns-6 c =
     let number = c .before .before .before .before .before .before .before .before .before .before .before .before .before .before .before .number in
     let records-at2 = c .before .before .before .before .before .before .before .before .before .before .before .before .records-at2 in
     let o = c .before .before .before .before .before .before .before .before .o in
-    let bits-at = c .before .before .before .before .before .before .bits-at in
+    let cost-at = c .before .before .before .before .before .before .cost-at in
     let cost = c .before .before .before .before .cost in
     let decimal-at3 = c .before .before .decimal-at3 in
     let enum-told6 = c .enum-told6 in
     stops-5 (args .line .now) (args .a) (args .b) (args .c) (args .d) (args .e) _ _
     (sym (decimal-at .ensures) ∙ ap found32 (context .given .1)) (told-bytes (records-at .ensures) (p .given .1) .0)
     (sym (decimal-at2 .ensures) ∙ ap found32 (number .given .1)) (told-bytes (records-at2 .ensures) (o .given .1) .0)
-    (sym (bits-at .ensures) ∙ ap found64 (cost .given .1)) (sym (decimal-at3 .ensures) ∙ ap found32 (enum-told6 .given .1))
+    (sym (cost-at .ensures) ∙ ap foundCost (cost .given .1)) (sym (decimal-at3 .ensures) ∙ ap found32 (enum-told6 .given .1))
 
 same-length-9 : tie.Need-same-length-9
 same-length-9 c = search needs
@@ -222,7 +222,7 @@ returns-7 c =
     let number = early .before .before .before .before .number in
     let records-at2 = c .before .before .before .before .before .before .before .before .before .before .before .before .before .records-at2 in
     let o = c .before .before .before .before .before .before .before .before .before .o in
-    let bits-at = c .before .before .before .before .before .before .before .bits-at in
+    let cost-at = c .before .before .before .before .before .before .before .cost-at in
     let cost = c .before .before .before .before .before .cost in
     let decimal-at3 = c .before .before .before .decimal-at3 in
     let nodes = c .before .nodes in
@@ -230,7 +230,7 @@ returns-7 c =
     (says-all (args .line .now) (args .a) (args .b) (args .c) (args .d) (args .e) (args .policy .now) (args .output .now)
     (sym (decimal-at .ensures) ∙ ap found32 (context .given .1)) (told-bytes (records-at .ensures) (p .given .1) .0)
     (sym (decimal-at2 .ensures) ∙ ap found32 (number .given .1)) (told-bytes (records-at2 .ensures) (o .given .1) .0)
-    (sym (bits-at .ensures) ∙ ap found64 (cost .given .1)) (sym (decimal-at3 .ensures) ∙ ap found32 (nodes .given .1)))
+    (sym (cost-at .ensures) ∙ ap foundCost (cost .given .1)) (sym (decimal-at3 .ensures) ∙ ap found32 (nodes .given .1)))
     (told-bytes (records-at .ensures) (p .given .1) .1) (told-bytes (records-at2 .ensures) (o .given .1) .1)
 
 pub case-in-spec : {M : Type 1} → statement M
@@ -261,8 +261,8 @@ case-in-spec =
     same-length-3
     same-length-4
     returns-4
-    add-bits-at
-    bits-at-requires
+    add-cost-at
+    cost-at-requires
     enum-known-cost
     enum-told-5
     same-length-5

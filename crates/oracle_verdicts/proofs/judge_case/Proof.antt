@@ -18,7 +18,7 @@ claspwillow-compile-requires c κs = search needs
 
 slice-reshare-prefix-agrees : tie.Need-slice-reshare-prefix-agrees
 slice-reshare-prefix-agrees c =
-    let args = c .before .before .before .before .before .before .before .before .before .before .before .before .before .before .before .args in
+    let args = c .before .before .before .before .before .before .before .before .before .before .before .before .before .before .before .before .args in
     let claspwillow-compile = c .before .before .before .before .claspwillow-compile in
     let long : length (claspwillow-compile .last .1 .1 .0) ≡ length (args .out .now) = search needs in
     bytes-fit (args .said .context) (take (args .said .policy) (args .policy .now)) (args .out .now) (args .work .now)
@@ -26,8 +26,7 @@ slice-reshare-prefix-agrees c =
 
 slice-aggregate-agrees : tie.Need-slice-aggregate-agrees
 slice-aggregate-agrees c =
-    let early = c .before .before .before .before .before .before .before .before .before .before .before .before in
-    let args = early .before .before .before .before .args in
+    let args = c .before .before .before .before .before .before .before .before .before .before .before .before .before .before .before .before .before .args in
     let claspwillow-compile = c .before .before .before .before .before .claspwillow-compile in
     let long : length (claspwillow-compile .last .1 .1 .0) ≡ length (args .out .now) = search needs in
     sym
@@ -37,9 +36,8 @@ slice-aggregate-agrees c =
 
 slice-aggregate-agrees-2 : tie.Need-slice-aggregate-agrees-2
 slice-aggregate-agrees-2 c =
-    let early = c .before .before .before .before .before .before .before .before .before .before .before .before in
-    let args = early .before .before .before .before .before .args in
-    let pre = early .before .before .before .before .before .pre in
+    let args = c .before .before .before .before .before .before .before .before .before .before .before .before .before .before .before .before .before .before .args in
+    let pre = c .before .before .before .before .before .before .before .before .before .before .before .before .before .before .before .before .before .before .pre in
     sym (length-take-le (args .said .output) (args .stored .now) (pre .1))
 
 agrees-requires : tie.Need-agrees-requires
@@ -53,15 +51,14 @@ same-length-2 c = search needs
 
 returns : tie.Need-returns
 returns c =
-    let early = c .before .before .before .before .before .before .before .before .before .before .before .before in
-    let args = early .before .before .before .before .before .before .before .args in
-    let pre = early .before .before .before .before .before .before .before .pre in
+    let args = c .before .before .before .before .before .before .before .before .before .before .before .before .before .before .before .before .before .before .before .before .args in
+    let pre = c .before .before .before .before .before .before .before .before .before .before .before .before .before .before .before .before .before .before .before .before .pre in
     let claspwillow-compile = c .before .before .before .before .before .before .before .before .claspwillow-compile in
     let agrees = c .before .agrees in
     let if1 = c .if1 in
     judges-agrees (args .said .context) (take (args .said .policy) (args .policy .now)) (args .out .now) (args .work .now)
     (claspwillow-compile .ensures) (pre .2) (args .said .number) (take (args .said .output) (args .stored .now))
-    (args .said .cost) (args .said .nodes) (agrees .ensures) (if1 .taken)
+    (args .said .cost) (args .said .never) (args .said .nodes) (agrees .ensures) (if1 .taken)
 
 same-length-3 : tie.Need-same-length-3
 same-length-3 c = search needs
@@ -71,15 +68,14 @@ same-length-4 c = search needs
 
 returns-2 : tie.Need-returns-2
 returns-2 c =
-    let early = c .before .before .before .before .before .before .before .before .before .before .before .before in
-    let args = early .before .before .before .before .before .before .before .args in
-    let pre = early .before .before .before .before .before .before .before .pre in
+    let args = c .before .before .before .before .before .before .before .before .before .before .before .before .before .before .before .before .before .before .before .before .args in
+    let pre = c .before .before .before .before .before .before .before .before .before .before .before .before .before .before .before .before .before .before .before .before .pre in
     let claspwillow-compile = c .before .before .before .before .before .before .before .before .claspwillow-compile in
     let agrees = c .before .agrees in
     let if1 = c .if1 in
     judges-differs (args .said .context) (take (args .said .policy) (args .policy .now)) (args .out .now) (args .work .now)
     (claspwillow-compile .ensures) (pre .2) (args .said .number) (take (args .said .output) (args .stored .now))
-    (args .said .cost) (args .said .nodes) (agrees .ensures) (if1 .left)
+    (args .said .cost) (args .said .never) (args .said .nodes) (agrees .ensures) (if1 .left)
 
 pub judge-case-spec : {M : Type 1} → statement M
 judge-case-spec =
