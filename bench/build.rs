@@ -1,8 +1,8 @@
 //! Finds the Rust's sources and prepares the three copies of its compiler.
 //!
 //! The unmodified files are built where they stand, by path. Beside them, in the build's own folder: `costed.rs`, the compiler with the
-//! text of src/accessor.rs appended, `counted.rs`, the compiler with counters and document 01's room limits put in by exact text, and
-//! `types`, the type rules with u for d:X in Tapscript put in by exact text.
+//! text of src/accessor.rs appended, `counted.rs`, the same with counters, document 01's room limits and document 02's limit of height put in
+//! by exact text, and `types`, the type rules with u for d:X in Tapscript put in by exact text.
 
 use std::path::{Path, PathBuf};
 use std::{env, fs, process};
@@ -59,7 +59,7 @@ fn types(text: &str) -> String {
     patched(text, "    pub const fn cast_dupif(self)", "    pub fn cast_dupif(self)")
 }
 
-/// The compiler with counters and room limits: each patch calls src/room.rs and changes nothing else.
+/// The compiler with counters and limits: each patch calls src/room.rs and changes nothing else.
 fn counted(text: &str) -> String {
     let elem_cost = "    let elem_cost = elem.cost_1d(sat_prob, dissat_prob);\n";
     let insert = "        map.insert(elem_key, elem);\n";
@@ -68,7 +68,8 @@ fn counted(text: &str) -> String {
     let store = "        policy_cache.insert((policy.clone(), ord_sat_prob, ord_dissat_prob), ret.clone());\n";
     let hit = "        return Ok(ret.clone());\n";
     let gain = "                let diff = be.cost_1d(sp, dp) - bw.cost_1d(sp, dp);\n";
-    let text = patched(text, elem_cost, &format!("{elem_cost}    crate::room::compare(elem_cost);\n"));
+    let too_tall = "    if crate::room::too_tall(elem.ms.ext.tree_height) {\n        return false;\n    }\n";
+    let text = patched(text, elem_cost, &format!("{too_tall}{elem_cost}    crate::room::compare(elem_cost);\n"));
     let text = patched(&text, insert, &format!("        crate::room::accept(map.len());\n{insert}"));
     let text = patched(&text, queue, &format!("{queue}    let mut fuel = crate::room::Fuel::full();\n"));
     let text = patched(&text, pop, &format!("        fuel.pop();\n{pop}"));
@@ -98,7 +99,7 @@ fn main() {
 
     let write = |name: &str, text: &str| fs::write(out.join(name), text).unwrap_or_else(|e| stop(&format!("{name}: {e}")));
     write("costed.rs", &format!("{text}\n{accessor}"));
-    write("counted.rs", &counted(&text));
+    write("counted.rs", &format!("{}\n{accessor}", counted(&text)));
     let copied = out.join("types");
     fs::create_dir_all(&copied).unwrap_or_else(|e| stop(&format!("{}: {e}", copied.display())));
     for (file, change) in

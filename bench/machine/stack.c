@@ -3,7 +3,7 @@
 #include "claspwillow.h"
 #include "machine.h"
 
-enum { WORDS = 1 << 20, ROOM = 294912, RECORDS = 4096, PAINTED = 3 << 20 };
+enum { WORDS = 1 << 20, ROOM = 294912, HEIGHT = 128, PAINTED = 3 << 20 };
 
 static const uint64_t PAINT = 0xA5A5A5A5A5A5A5A5;
 
@@ -92,7 +92,7 @@ static void thresholds(int inner_first) {
     }
 }
 
-/* Trees of 4,096 records: a key, checked, and as many records above it as there is room for. */
+/* Trees that are 128 high: a key, checked, which is 2 high, and a fragment for each level above it. */
 static uint32_t key(void) {
     begin();
     leaf(34, 7);
@@ -101,13 +101,15 @@ static uint32_t key(void) {
 }
 
 static void wrapped(void) {
-    for (uint32_t i = key(); i < RECORDS; i++) {
+    uint32_t i = key();
+    for (int height = 3; height <= HEIGHT; height++, i++) {
         wrapper(48, i - 1);
     }
 }
 
 static void thresholds_of_one(void) {
-    for (uint32_t i = key(); i < RECORDS; i++) {
+    uint32_t i = key();
+    for (int height = 3; height <= HEIGHT; height++, i++) {
         put16(10);
         put16(56);
         put16(1);
@@ -117,7 +119,8 @@ static void thresholds_of_one(void) {
 }
 
 static void alternatives(int deep_left) {
-    for (uint32_t i = key(); i + 2 <= RECORDS; i += 2) {
+    uint32_t i = key();
+    for (int height = 3; height <= HEIGHT; height++, i += 2) {
         put16(4);
         put16(32);
         pair(54, deep_left ? i - 1 : i, deep_left ? i : i - 1);
@@ -125,7 +128,8 @@ static void alternatives(int deep_left) {
 }
 
 static void conjunctions(void) {
-    for (uint32_t i = key(); i + 3 <= RECORDS; i += 3) {
+    uint32_t i = key();
+    for (int height = 3; height <= HEIGHT; height++, i += 3) {
         put16(4);
         put16(33);
         wrapper(46, i);

@@ -8,7 +8,7 @@ use crate::oracle::{answer, Answer};
 use crate::policies::{and, chain, damaged, damaged_context, key, or, thresh, Maker, Policy, AFTER, HASH160, LOCKS, OLDER, SHA256};
 use crate::random::Random;
 use crate::records::{to_hex, u16s, Writer};
-use crate::room::Counts;
+use crate::room::{self, Counts};
 
 /// The list as it is stored.
 pub const STORED: &str = include_str!("../../crates/oracle_replay/data/compile.txt");
@@ -390,5 +390,6 @@ pub fn run(out: &mut impl Write) -> Result<(), String> {
     part(out, "random, to 10 records", &random_cases(106, 10, 300), any)?;
     part(out, "random, to 20 records", &random_cases(107, 20, 120), any)?;
     part(out, "damaged copies, to 12 records", &damaged_cases(108, 12, 500), any)?;
+    eprintln!("bench: answers: {}", room::tall_searches());
     out.flush().map_err(|e| e.to_string())
 }

@@ -8,6 +8,7 @@ use crate::policies::{damaged, thresholds, Maker};
 use crate::port::{self, Results};
 use crate::random::Random;
 use crate::records::{from_hex, to_hex};
+use crate::room;
 
 /// The words of work memory that docs/ENTRIES.md states.
 const WORK: usize = 612_360;
@@ -93,13 +94,13 @@ fn differs(lent: &mut Lent, random: &mut Random, context: u32, policy: &[u8], wa
 
 /// Counts what is given, and says the first differences.
 struct Tally {
-    numbers: [u64; 17],
+    numbers: [u64; 20],
     differences: u64,
 }
 
 impl Tally {
     fn new() -> Self {
-        Tally { numbers: [0; 17], differences: 0 }
+        Tally { numbers: [0; 20], differences: 0 }
     }
 
     fn count(&mut self, number: u32, outcome: Result<(), String>) {
@@ -112,10 +113,10 @@ impl Tally {
         }
     }
 
-    fn end(&self, what: &str) -> bool {
-        let given: Vec<String> = (0..17).filter(|&n| self.numbers[n] > 0).map(|n| format!("{n}: {}", self.numbers[n])).collect();
+    fn end(&self, what: &str, note: &str) -> bool {
+        let given: Vec<String> = (0..20).filter(|&n| self.numbers[n] > 0).map(|n| format!("{n}: {}", self.numbers[n])).collect();
         println!("{} {what}, given {}", self.numbers.iter().sum::<u64>(), given.join(", "));
-        println!("{} differences", self.differences);
+        println!("{} differences{note}", self.differences);
         self.differences == 0
     }
 }
@@ -154,7 +155,7 @@ pub fn replay() -> bool {
         let outcome = differs(&mut lent, &mut random, context, &policy, &wanted);
         tally.count(wanted.number, outcome);
     }
-    tally.end("stored answers")
+    tally.end("stored answers", "")
 }
 
 /// COUNT random policies, some of them damaged, through the Rust and the port.
@@ -192,5 +193,5 @@ pub fn run(seed: u64, count: u64, records: usize) -> bool {
         }
     }
     println!("{infinite} of them compared an infinite cost; of the 136 pairs of k and n from 1 to 16 their thresholds have {}", met.len());
-    tally.end("random policies")
+    tally.end("random policies", &format!(", {}", room::tall_searches()))
 }

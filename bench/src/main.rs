@@ -58,6 +58,8 @@ mod policies;
 mod port;
 mod random;
 mod records;
+#[cfg(port)]
+mod tall;
 mod room;
 #[cfg(port)]
 mod scripts;

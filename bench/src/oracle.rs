@@ -69,9 +69,11 @@ fn told(cost: f64) -> (u64, bool) {
     }
 }
 
-/// Runs the three copies. The counted one goes first: where it refuses for room or NotACost, the others might not end and are not run.
+/// Runs the three copies. The counted one goes first: where it refuses for room or NotACost, the others might not end and are not run; and where it
+/// dropped a candidate for its height, it alone is what document 02 asks for.
 fn searched<Ctx: ScriptContext>(policy: &Concrete<Key>) -> Result<(Answer, Counts), String> {
-    let counted = number_of(guarded(|| counted::best_compilation::<Key, Ctx>(policy)).map(|r| r.map_err(|e| counted_error(&e))))?;
+    let counted =
+        number_of(guarded(|| counted::best_compilation_with_cost::<Key, Ctx>(policy)).map(|r| r.map_err(|e| counted_error(&e))))?;
     let counts = room::counts();
     let limits = match &counted {
         Err(number) => *number < LIMITS_EXCEEDED,
@@ -80,7 +82,15 @@ fn searched<Ctx: ScriptContext>(policy: &Concrete<Key>) -> Result<(Answer, Count
     if limits {
         return Ok((Answer::refused(counted.err().unwrap_or(NOT_A_COST)), counts));
     }
-    let counted = records_of(counted);
+    if counts.tall > 0 {
+        let nodes = counts.accepted + 2;
+        let answer = match counted.and_then(|(tree, cost)| Ok((write_tree(&tree)?, told(cost)))) {
+            Ok((output, (cost, never))) => Answer { number: 0, output, cost, never, nodes },
+            Err(number) => Answer::refused(number),
+        };
+        return Ok((answer, counts));
+    }
+    let counted = records_of(counted.map(|(tree, _)| tree));
     let plain = records_of(number_of(guarded(|| compiler::best_compilation::<Key, Ctx>(policy)).map(|r| r.map_err(|e| compiler_error(&e))))?);
     let costed =
         number_of(guarded(|| costed::best_compilation_with_cost::<Key, Ctx>(policy)).map(|r| r.map_err(|e| costed_error(&e))))?;

@@ -1,4 +1,4 @@
-//! Document 01's counters, room limits and NotACost, as the counted copy of the compiler asks them.
+//! Document 01's counters, room limits and NotACost, and document 02's limit of height, as the counted copy of the compiler asks them.
 //!
 //! A refusal leaves the search by unwinding, at the very place where document 01 gives it.
 
@@ -13,6 +13,8 @@ const TABLE: usize = 128;
 const CACHE: usize = 2_048;
 /// The most elements that one cast closure pops.
 const FUEL: usize = 4_096;
+/// How tall a candidate may be, a leaf being 1.
+pub const HEIGHT: usize = 128;
 
 /// A refusal on its way out of the search.
 pub struct Refusal(pub u32);
@@ -34,11 +36,15 @@ pub struct Counts {
     pub infinite: bool,
     /// Whether a child of a Thresh costs infinity both as E and as W.
     pub never_both: bool,
+    /// Candidates dropped because they were too tall.
+    pub tall: usize,
 }
 
 thread_local! {
     static COUNTS: Cell<Counts> =
-        const { Cell::new(Counts { accepted: 0, stored: 0, hits: 0, widest: 0, popped: 0, infinite: false, never_both: false }) };
+        const { Cell::new(Counts { accepted: 0, stored: 0, hits: 0, widest: 0, popped: 0, infinite: false, never_both: false, tall: 0 }) };
+    /// The searches, of all runs, that met a candidate over the limit of height.
+    static TALL_SEARCHES: Cell<u64> = const { Cell::new(0) };
 }
 
 fn refuse(number: u32) -> ! {
@@ -74,6 +80,21 @@ pub fn compare(cost: f64) {
 /// What a child of a Thresh costs as E and as W.
 pub fn gain(e: f64, w: f64) {
     change(|counts| counts.never_both |= e.is_infinite() && w.is_infinite());
+}
+
+/// Whether a candidate is dropped for its height; the Rust's figure of a leaf is 0.
+pub fn too_tall(figure: usize) -> bool {
+    let tall = figure + 1 > HEIGHT;
+    if tall && counts().tall == 0 {
+        TALL_SEARCHES.with(|cell| cell.set(cell.get() + 1));
+    }
+    change(|counts| counts.tall += usize::from(tall));
+    tall
+}
+
+/// What to say of the searches so far.
+pub fn tall_searches() -> String {
+    format!("{} searches met a candidate over {HEIGHT} high", TALL_SEARCHES.with(Cell::get))
 }
 
 /// An acceptance into a table that holds `others` entries: TableFull, then NodesFull.

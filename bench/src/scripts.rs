@@ -9,6 +9,7 @@ use crate::outline::{random_tables, sizes, Lent, Outline, Tables};
 use crate::port;
 use crate::random::Random;
 use crate::records::{to_hex, u16s, write_tree, Writer, TREE_RECORDS};
+use crate::room::HEIGHT;
 use crate::trees::{self, CHECK_WORK};
 use crate::Miniscript;
 
@@ -16,7 +17,7 @@ const OUTPUT_TOO_SMALL: u32 = 13;
 const NO_ENTRY: u32 = 17;
 
 /// The refusals that a call can give; each must be seen.
-const REFUSALS: [u32; 7] = [1, 2, 14, 15, 16, NO_ENTRY, OUTPUT_TOO_SMALL];
+const REFUSALS: [u32; 8] = [1, 2, 14, 15, 16, 19, NO_ENTRY, OUTPUT_TOO_SMALL];
 
 /// Bytes and words behind what is lent, which no call may touch.
 const FENCE: usize = 16;
@@ -60,7 +61,7 @@ fn script(case: &Case) -> Result<Script, u32> {
 struct Desk {
     work: Vec<u64>,
     out: Vec<u8>,
-    numbers: [u64; 18],
+    numbers: [u64; 20],
     differences: u64,
 }
 
@@ -202,6 +203,8 @@ fn refusals(desk: &mut Desk, random: &mut Random) {
     let ill_typed = tree(&[(33, vec![]), (44, u16s(&[0]))]);
     let broken = [&checked[..], &[0]].concat();
     let long = tree(&vec![(33, vec![]); TREE_RECORDS + 1]);
+    let wraps = (0..HEIGHT as u16 - 1).map(|child| (48, u16s(&[child + 1])));
+    let tall = tree(&[key, (44, u16s(&[0]))].into_iter().chain(wraps).collect::<Vec<_>>());
     let eight_keys = random_tables(random, 0, [8, 0, 0, 0]);
     let list = [
         (0, 0, checked.clone(), eight_keys.clone(), 35, CHECK_WORK),
@@ -211,6 +214,7 @@ fn refusals(desk: &mut Desk, random: &mut Random) {
         (14, 0, broken, Tables::default(), 0, CHECK_WORK),
         (15, 0, ill_typed, Tables::default(), 0, CHECK_WORK),
         (16, 0, long, Tables::default(), 0, CHECK_WORK),
+        (19, 0, tall, Tables::default(), 0, CHECK_WORK),
         (NO_ENTRY, 0, checked.clone(), Tables::default(), 0, CHECK_WORK),
         (OUTPUT_TOO_SMALL, 0, checked, eight_keys, 34, CHECK_WORK),
     ];
@@ -237,7 +241,7 @@ pub fn run(seed: u64, count: u64, records: usize) -> bool {
     for context in 0..2 {
         let mut tally = decode::Tally::default();
         for (flavour, name) in trees::FLAVOURS.iter().enumerate() {
-            desk.numbers = [0; 18];
+            desk.numbers = [0; 20];
             for _ in 0..count {
                 let case = random_case(&mut random, context, flavour, records);
                 run_case(&mut desk, &mut tally, &mut random, &case);
@@ -246,7 +250,7 @@ pub fn run(seed: u64, count: u64, records: usize) -> bool {
         }
         read_back &= tally.end(&format!("context {context}"));
     }
-    desk.numbers = [0; 18];
+    desk.numbers = [0; 20];
     refusals(&mut desk, &mut random);
     println!("each refusal: given {}", desk.given());
     for number in REFUSALS.iter().filter(|&&n| desk.numbers[n as usize] == 0) {

@@ -1,5 +1,6 @@
 //! Fragment trees: the tree check as the Rust's own type rules have it, and random trees, well-typed, ill-typed and damaged.
 
+
 use crate::keys::Key;
 use crate::miniscript::context::{Segwitv0, Tap};
 use crate::miniscript::types::{Base, Dissat, ExtData, Input, Type};
@@ -7,6 +8,7 @@ use crate::miniscript::ScriptContext;
 use crate::policies::LOCKS;
 use crate::random::Random;
 use crate::records::{u16_at, u16s, u32_at, Writer, LOCK_MAX, THRESH_MAX, TREE_RECORDS};
+use crate::room::HEIGHT;
 use crate::sync::Arc;
 use crate::{tapscript, AbsLockTime, Miniscript, RelLockTime, Terminal, Threshold};
 
@@ -15,6 +17,7 @@ const BAD_WORK: u32 = 2;
 const BAD_TREE: u32 = 14;
 const ILL_TYPED: u32 = 15;
 const TREE_TOO_LARGE: u32 = 16;
+const TREE_TOO_TALL: u32 = 19;
 
 /// The words of work memory that the check asks for.
 pub const CHECK_WORK: usize = 4_096;
@@ -60,7 +63,7 @@ pub fn packed(ty: &Type) -> u32 {
 
 pub type Child<Ctx> = Arc<Miniscript<Key, Ctx>>;
 
-/// The tree that the bytes write, with its type and figures: per record 16, 14, 15, then unused records.
+/// The tree that the bytes write, with its type and figures: per record 16, 14, 15, 19, then unused records.
 pub fn read_tree<Ctx: ScriptContext>(bytes: &[u8]) -> Result<Child<Ctx>, u32> {
     let mut slots: Vec<Option<Child<Ctx>>> = Vec::new();
     let mut at = 0;
@@ -83,10 +86,20 @@ pub fn read_tree<Ctx: ScriptContext>(bytes: &[u8]) -> Result<Child<Ctx>, u32> {
     }
 }
 
-/// A fragment with its type and figures.
-fn made<Ctx: ScriptContext>(node: Terminal<Key, Ctx>) -> Result<Child<Ctx>, u32> {
+/// A fragment with its type and figures, however tall.
+pub fn made_any<Ctx: ScriptContext>(node: Terminal<Key, Ctx>) -> Result<Child<Ctx>, u32> {
     let (ty, ext) = (typed(&node)?, ExtData::type_check(&node));
     Ok(Arc::new(Miniscript::from_components_unchecked(node, ty, ext)))
+}
+
+/// A fragment with its type and figures, if it is not too tall; the Rust's figure of a leaf is 0.
+fn made<Ctx: ScriptContext>(node: Terminal<Key, Ctx>) -> Result<Child<Ctx>, u32> {
+    let tree = made_any(node)?;
+    if tree.ext.tree_height + 1 > HEIGHT {
+        Err(TREE_TOO_TALL)
+    } else {
+        Ok(tree)
+    }
 }
 
 /// The Rust's type of a fragment, in the one context that Multi and MultiA have.
@@ -153,7 +166,7 @@ fn read_node<Ctx: ScriptContext>(kind: usize, payload: &[u8], slots: &mut [Optio
 }
 
 /// A wrapper, a pair or a triple over its children.
-fn over<Ctx: ScriptContext>(kind: usize, children: Vec<Child<Ctx>>) -> Option<Terminal<Key, Ctx>> {
+pub fn over<Ctx: ScriptContext>(kind: usize, children: Vec<Child<Ctx>>) -> Option<Terminal<Key, Ctx>> {
     let mut list = children.into_iter();
     let mut next = || list.next();
     Some(match kind {
@@ -175,7 +188,7 @@ fn over<Ctx: ScriptContext>(kind: usize, children: Vec<Child<Ctx>>) -> Option<Te
 }
 
 /// The children of a wrapper, a pair or a triple.
-fn arity(kind: u16) -> usize {
+pub fn arity(kind: u16) -> usize {
     match kind {
         42..=48 => 1,
         49..=54 => 2,
@@ -351,6 +364,20 @@ fn damaged(random: &mut Random, bytes: &[u8]) -> Vec<u8> {
     out
 }
 
+/// A low tree of exactly this many records.
+fn wide(out: &mut Writer, records: usize) -> u16 {
+    if records == 1 {
+        return out.record(33, &[]);
+    }
+    if records % 2 == 0 {
+        let child = wide(out, records - 1);
+        return out.record(48, &u16s(&[child]));
+    }
+    let left = wide(out, (records - 1) / 2);
+    let right = wide(out, records - 1 - (records - 1) / 2);
+    out.record(54, &u16s(&[left, right]))
+}
+
 /// A tree that is one chain of wrappers, of exactly this many records.
 fn long(records: usize) -> Vec<u8> {
     let mut out = Writer::default();
@@ -398,7 +425,7 @@ pub fn renumbered(random: &mut Random, bytes: &[u8], bound: usize, large: usize)
 }
 
 /// Leaves of every kind that a context has, with few numbers; and locks and multisignatures with every size of a number.
-fn leaves<Ctx: ScriptContext>() -> [Vec<Child<Ctx>>; 2] {
+pub fn leaves<Ctx: ScriptContext>() -> [Vec<Child<Ctx>>; 2] {
     let multi = |k: usize, n: usize| {
         let keys: Vec<Key> = (0..n as u32).map(Key).collect();
         let nodes = [Threshold::new(k, keys.clone()).map(Terminal::Multi), Threshold::new(k, keys).map(Terminal::MultiA)];
@@ -481,7 +508,12 @@ pub const FLAVOURS: [&str; 3] = ["well-typed", "ill-typed", "damaged"];
 /// The bytes of a random tree of one flavour.
 pub fn case(random: &mut Random, context: u32, flavour: usize, records: usize) -> Vec<u8> {
     if random.once_in(400) {
-        return long(TREE_RECORDS - 2 + random.below(5));
+        if random.once_in(2) {
+            return long(HEIGHT - 2 + random.below(5));
+        }
+        let mut out = Writer::default();
+        wide(&mut out, TREE_RECORDS - 2 + random.below(5));
+        return out.bytes;
     }
     match flavour {
         0 => well_typed(random, context, records).0.bytes(),

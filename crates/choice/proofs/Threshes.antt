@@ -38,28 +38,23 @@ use Rattle.candidates.specs.Pairs.{madeAs}
 use Rattle.memory.specs.Layout.{maxRows, nodeCount, rowCount}
 use Rattle.nodes.specs.Words.{nodeAt, rowChild}
 use Rattle.nodes.specs.Views.{rowAt, treeOf, seenAs, allNodes, seenAll}
-use Rattle.nodes.specs.Answers.{threshKind, Holds, OneRow}
+use Rattle.nodes.specs.Answers.{threshKind, maxFigure, Holds, OneRow}
 use Rattle.nodes.specs.Offers.{Offerable, madeSeen}
 use Rattle.nodes.proofs.Seen.{seen-fields}
 use Rattle.nodes.proofs.Grown.{grows-refl, tables-refl, seenAll-kept}
-use Rattle.nodes.proofs.Offers.{node-entered, candidate-higher}
+use Rattle.nodes.proofs.Offers.{node-entered}
 use Rattle.choice.specs.Threshes.{MakesThresh, typesOf, extsOf, costsOf, ifValid, threshWith, threshAt, withRow}
 
 -- ---- the figures of the children
 
--- the highest node
-top : List ℕ → ℕ
-top m = nodeCount m - 1
-
-exts-entered : {m : List ℕ} → Holds m → (es : List ℕ) → AllBelow (nodeCount m) es → AllEntered (top m) (extsOf m es)
-unfolding AllBelow top
+exts-entered : {m : List ℕ} → Holds m → (es : List ℕ) → AllBelow (nodeCount m) es → AllEntered maxFigure (extsOf m es)
+unfolding AllBelow
 exts-entered holds [] h = tt
-exts-entered {m} holds (e ∷ es) h = (node-entered holds e (top m) (h .0) (omega (arith, h .0)), exts-entered holds es (h .1))
+exts-entered {m} holds (e ∷ es) h = (node-entered holds (h .0), exts-entered holds es (h .1))
 
 pub exts-children : {m : List ℕ} → Holds m → (es : List ℕ) → AllBelow (nodeCount m) es → {l : List ExtData} → l ≡ extsOf m es → Children l
-unfolding top
 exts-children {m} holds es h is =
-    rw is (entered-children (top m) (extsOf m es) (omega (arith, holds .few)) (exts-entered holds es h))
+    rw is (entered-children maxFigure (extsOf m es) (omega arith) (exts-entered holds es h))
 
 -- ---- the code's Thresh, with no row yet
 
@@ -269,14 +264,13 @@ module _ (c : Context) (r k n : ℕ) (row m₀ : List ℕ)
         ∙ seenAll-kept holds (one .grows) pol (take n row) below)
 
     offerable : Offerable m (withRow y number)
-    unfolding top
     offerable =
         let kind : y .kind ≡ threshKind = ap (λ (z : Candidate). z .kind) (shaped .is) in
-        let bounded : bounds.Candidate (top m₀ + 1) (threshold k (extsOf m₀ (take n row))) =
-        threshold-candidate (top m₀) k (extsOf m₀ (take n row)) (omega (arith, length-exts (take n row), count, some))
+        let bounded : bounds.Candidate (maxFigure + 1) (threshold k (extsOf m₀ (take n row))) =
+        threshold-candidate maxFigure k (extsOf m₀ (take n row)) (omega (arith, length-exts (take n row), count, some))
         (omega (arith, length-exts (take n row), count, few)) (exts-entered holds (take n row) below) in
         record {
-          candidate = candidate-higher {g = top m₀ + 1} (omega (arith, one .count, holds .two)) (rw (shaped .ext) bounded);
+          candidate = rw (shaped .ext) bounded;
           kind = omega arith;
           rowed = λ same. omega (arith, one .is, one .rows);
         }

@@ -1,12 +1,12 @@
 -- What the tree check's number says to an entry that calls it: 0 that the tree has passed, any other that it is refused with it. Assumes nothing.
 use Prim.Native.Nat.{ℕ, zero, suc, _<_}
-use mathlib.Core.Bool.{Bool, true, false}
+use mathlib.Core.Bool.{Bool, true, false, cond}
 use mathlib.Core.List.{List, [], _∷_, _++_, map}
 use mathlib.Core.Option.{Option, none, some}
 use mathlib.Core.Path.{_≡_, refl, ap, _∙_}
 use native.Mathlib.Omega.{arith}
 use borrow.Author.Tests.{eqb-true, ne-eqb}
-use lib.Dec.{eqb}
+use lib.Dec.{leb, eqb}
 use lib.ListN.{length, take, drop, length-replicate}
 use Rattle.words.specs.Memory.{zeroed}
 use Rattle.records.specs.Payloads.{Payload, childrenOf}
@@ -17,7 +17,8 @@ use Rattle.types.specs.declared.TypeResult.{TypeResult}
 use Rattle.types.specs.declared.TypeResult.the-variants.{Ok, IllTyped}
 use Rattle.trees.specs.Fragment.{Fragment}
 use Rattle.trees.specs.Typing.{typeOf}
-use Rattle.trees.specs.Reading.{Answer, refused, done, _>>=_, orRefuse, badTree, maxRecords}
+use Rattle.trees.specs.Height.{maxHeight, heightOf}
+use Rattle.trees.specs.Reading.{Answer, refused, done, _>>=_, orRefuse, badTree, treeTooTall, maxRecords}
 use Rattle.trees.specs.Reading.{Slots, takeAll, rootOf, addMade, addPayload, addRecord, readFrom, readTree}
 use Rattle.trees.specs.Tree.{fragmentOf}
 use Rattle.trees.specs.TreeCheck.{badContext, badWork, Typed, typed, makeTyped, typedTreeOf, contextOf, workOf, checkIn, checkOf}
@@ -62,7 +63,11 @@ module _ {A : Type 0} (make : ℕ → Payload → List A → Answer A) (makes : 
       (λ slots′. numbered-read more slots′ (drop len (b ∷ bs))))
 
 numbered-type : (f : Fragment) (r : TypeResult) → Numbered (typed f r)
-numbered-type f (Ok t) = tt
+numbered-type f (Ok t) = by-height (leb (heightOf f) maxHeight)
+  where
+    by-height : (b : Bool) → Numbered {A = Typed} (cond b (done (record { tree = f; type = t })) (refused treeTooTall))
+    by-height true = tt
+    by-height false = omega arith
 numbered-type f IllTyped = omega arith
 
 numbered-made : (c : Context) (kind : ℕ) (p : Payload) (xs : List Typed) → Numbered (makeTyped c kind p xs)

@@ -36,6 +36,7 @@ fn number(r: Checked) -> u32
         Checked::BadTree => 14,
         Checked::IllTyped => 15,
         Checked::TreeTooLarge => 16,
+        Checked::TreeTooTall => 19,
         Checked::Typed(_) => 0,
     }
 }
@@ -50,6 +51,7 @@ fn packed_type(r: Checked) -> u32
         Checked::BadTree => 0,
         Checked::IllTyped => 0,
         Checked::TreeTooLarge => 0,
+        Checked::TreeTooTall => 0,
         Checked::Typed(t) => t.pack(),
     }
 }

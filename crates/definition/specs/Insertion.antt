@@ -1,5 +1,5 @@
 -- Inserting a candidate into a table, and the closure of casts, from insert_elem and insert_elem_closure in policy/compiler.rs: document 01,
--- "Modules, leaves first", 5 and 6.
+-- "Modules, leaves first", 5 and 6; and document 02, R-8: what is too tall is dropped.
 use mathlib.Core.Bool.{Bool, true, false, not, cond, _&&_}
 use mathlib.Core.List.{List, [], _∷_, _++_}
 use mathlib.Core.Option.{Option, none, some}
@@ -12,6 +12,7 @@ use Rattle.costs.specs.declared.Price.{Price}
 use Rattle.costs.specs.declared.Price.the-variants as Price
 use Rattle.costs.specs.Price.{atMost}
 use Rattle.trees.specs.Fragment.{Fragment}
+use Rattle.trees.specs.Height.{maxHeight}
 use Rattle.definition.specs.Candidates.{Candidate, Cast, allCasts, Made, passedOver, missing, made, kindOf}
 use Rattle.definition.specs.Tables.{Probs, Table, costAt, keySub, enter}
 use Rattle.definition.specs.Refusals.{M, done, refused, then, _>>=_, pure, refuse, accept}
@@ -25,9 +26,17 @@ unfoldable pub filter : (Candidate → Bool) → Table → Table
 filter p [] = []
 filter p (x ∷ xs) = cond (p x) (x ∷ filter p xs) (filter p xs)
 
--- what is worth an offer: no malleable candidate, and none that its context refuses
+-- no malleable candidate, and none that its context refuses
+abbrev pub valid : Context → Candidate → Bool
+valid c x = x .ty .mall .«non_malleable» && checkLocalValidity c (kindOf (x .tree)) (x .ext)
+
+-- how tall a candidate is: its figure, the Rust's, begins with 0 at a leaf
+abbrev pub height : Candidate → ℕ
+height x = suc (x .ext .«tree_height»)
+
+-- what is worth an offer: a valid candidate that is not too tall
 abbrev pub worthwhile : Context → Candidate → Bool
-worthwhile c x = x .ty .mall .«non_malleable» && checkLocalValidity c (kindOf (x .tree)) (x .ext)
+worthwhile c x = valid c x && leb (height x) maxHeight
 
 -- whether entry x is a subtype of y at the same or a lower cost
 abbrev pub beats : Probs → Candidate → Candidate → Bool

@@ -14,12 +14,14 @@ use Rattle.correctness.specs.declared.Base.{Base}
 use Rattle.correctness.specs.declared.Base.the-variants.{B, K, «V», W}
 use Rattle.correctness.specs.Letters.{isB}
 use Rattle.figures.specs.Validity.{checkLocalValidity}
+use Rattle.trees.specs.Height.{maxHeight}
 use Rattle.policies.specs.Policy.{Policy}
 use Rattle.policies.specs.Reading as Reading
 use Rattle.policies.specs.Reading.{readPolicy}
 use Rattle.definition.specs.Candidates.{Candidate, kindOf}
 use Rattle.definition.specs.Tables.{costAt}
 use Rattle.definition.specs.Refusals.{State, state, Res, NodesFull, TopLevelNonSafe, OutputTooSmall, BadWork}
+use Rattle.definition.specs.Insertion.{valid, height}
 use Rattle.definition.specs.Search.{isBaseB}
 use Rattle.writing.specs.WellFormed.{AllBelow}
 use Rattle.writing.specs.Writing.{size, bytesOfTree}
@@ -27,6 +29,7 @@ use Rattle.definition.specs.Compile.{maxRecords, rootProbs, bestCompilation, co
 use Rattle.definition.specs.Compile.{compileRead, compileIn, contextOf, compile}
 use Rattle.definition_laws.specs.FormedPolicy.{FormedPolicy}
 use Rattle.definition_laws.specs.Laws.{nobody, Entry, ProperState, Gives, refuses, gives, Keeps, Sound}
+use Rattle.definition_laws.proofs.Heights.{height-of}
 use Rattle.definition_laws.proofs.Keeping.{pure-keeps, refuse-keeps, cond-keeps, bind-keeps}
 use Rattle.definition_laws.proofs.Searching.{cheapest-of, chosen-keeps, search-proper}
 use Rattle.definition_laws.proofs.Reading.{reads-formed}
@@ -79,7 +82,8 @@ compiled-is-sound c room q bytes cost nodes w h = by-answer (bestCompilation-kee
     fitted x s price false t r g h = not-both h
     fitted x s price true t r g h =
         let test = both (leb (size (x .tree)) maxRecords) (leb (length (bytesOfTree (x .tree))) room) t in
-        let worth = both (x .ty .mall .«non_malleable») (checkLocalValidity c (kindOf (x .tree)) (x .ext)) (r .entry .worth) in
+        let tests = both (valid c x) (leb (height x) maxHeight) (r .entry .worth) in
+        let worth = both (x .ty .mall .«non_malleable») (checkLocalValidity c (kindOf (x .tree)) (x .ext)) (tests .0) in
         let same-bytes : bytesOfTree (x .tree) ≡ bytes = cc in
         let same-nodes : s .accepted + 2 ≡ nodes = cc in
         record {
@@ -94,6 +98,7 @@ compiled-is-sound c room q bytes cost nodes w h = by-answer (bestCompilation-kee
           safe = r .safe;
           nonMalleable = worth .0;
           valid = subst (λ e. checkLocalValidity c (kindOf (x .tree)) e ≡ true) (r .entry .good .figured) (worth .1);
+          low = subst (λ h. h ≤ maxHeight) (height-of c x (r .entry .good)) (leb-true _ _ (tests .1));
           counted = omega (arith, g .nodes, same-nodes);
         }
 

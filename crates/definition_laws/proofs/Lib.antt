@@ -2,6 +2,7 @@
 pub mod SamePolicies
 pub mod Believing
 pub mod Typed
+pub mod Heights
 pub mod Keys
 pub mod Sorting
 pub mod Keeping
@@ -12,5 +13,6 @@ pub mod Compiling
 pub mod Passing
 pub mod Steps
 pub mod NothingBetter
+pub mod AsBefore
 pub mod Before
 pub mod Bodies

@@ -24,7 +24,7 @@ sound-passes context {c} {bytes} k s =
     let again : treeOf bytes ≡ done (s .tree) = ap treeOf (s .written) ∙ read-back (s .tree) (s .formed) (s .within) in
     record {
       found = x;
-      passed = passes-well-typed-trees context c bytes x k .1 (again, s .typed);
+      passed = passes-well-typed-trees context c bytes x k .1 (again, s .typed, s .low);
       base = s .base;
       safe = s .safe;
       nonMalleable = s .nonMalleable;

@@ -20,6 +20,7 @@ use Rattle.trees.specs.Fragment.{Fragment, Fragments, end, _▹_, False, True, 
 use Rattle.trees.specs.Fragment.{Alt, Swap, Check, DupIf, Verify, NonZero, ZeroNotEqual}
 use Rattle.trees.specs.Fragment.{AndB, AndV, OrB, OrD, OrC, OrI, AndOr, Thresh, Multi, MultiA}
 use Rattle.trees.specs.Typing.{typeOf}
+use Rattle.trees.specs.Height.{maxHeight, heightOf}
 use Rattle.trees.specs.Reading as answer
 use Rattle.trees.specs.TreeCheck.{Typed, checkOf}
 use Rattle.definition.specs.Candidates.{Candidate, kindOf, lockExt, hashExt, Made, passedOver, missing, made}
@@ -93,7 +94,7 @@ pub data Sorted : Table → Type 0 where
   empty : Sorted []
   first : {x : Candidate} {xs : Table} → All (λ y. keyBefore x y ≡ true) xs → Sorted xs → Sorted (x ∷ xs)
 
--- an entry of a table is well-typed, not malleable, and one that its context takes
+-- an entry of a table is well-typed, not malleable, one that its context takes, and not too tall
 pub record Entry (c : Context) (x : Candidate) : Type 0 where
   pub good : Good c x
   pub worth : worthwhile c x ≡ true
@@ -142,7 +143,7 @@ pub record Keeps {A : Type 0} (c : Context) (P : A → Type 0) (m : M A) : Type 
 
 -- ---- what compile promises
 
--- the bytes write a tree of at most 4,096 records that is well-typed, of base B, safe, not malleable, and within its context's limits
+-- the bytes write a tree of at most 4,096 records and 128 levels that is well-typed, of base B, safe, not malleable, and within its context's limits
 pub record Sound (c : Context) (room : ℕ) (bytes : List ℕ) (nodes : ℕ) : Type 0 where
   pub tree : Fragment
   pub ty : «Type»
@@ -155,6 +156,7 @@ pub record Sound (c : Context) (room : ℕ) (bytes : List ℕ) (nodes : ℕ) : T
   pub safe : ty .mall .safe ≡ true
   pub nonMalleable : ty .mall .«non_malleable» ≡ true
   pub valid : checkLocalValidity c (kindOf tree) (figuresOf c tree) ≡ true
+  pub low : heightOf tree ≤ maxHeight
   pub counted : nodes ≤ maxAccepted + 2
 
 -- the bytes pass the tree check, which finds a tree of base B that is safe and not malleable

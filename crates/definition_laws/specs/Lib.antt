@@ -5,3 +5,4 @@ pub mod Before
 pub mod Bodies
 pub mod NothingBetter
 pub mod Believing
+pub mod Heights

@@ -37,7 +37,7 @@ pub record NothingBetter (c : Context) (p : Probs) (offered : List Candidate) (t
   -- no entry is a subtype of another at the same or a lower cost, and all their costs can be compared
   pub noneBeaten : AnyTwo (λ x y. beats p x y ≡ false) t
   pub comparable : All (λ x. isPrice (costAt p x) ≡ true) t
-  -- for every offer that was not malleable or locally invalid some entry is a subtype of it at the same or a lower cost
+  -- for every offer that was not malleable, locally invalid or too tall some entry is a subtype of it at the same or a lower cost
   pub allMet : All (λ x. worthwhile c x ≡ true → Some (λ e. beats p e x ≡ true) t) offered
   -- at most one entry has a key
   pub oneOfAKey : AnyTwo (λ x y. SameKey x y → ⊥) t

@@ -63,6 +63,7 @@ answers =
     ∷ 15 named "IllTyped"
     ∷ 16 named "TreeTooLarge"
     ∷ 17 named "NoEntry"
+    ∷ 19 named "TreeTooTall"
     ∷ []
 
 -- the name of a number, none where the table has no such number

@@ -71,6 +71,7 @@ pub fn answer_name(number: u32) -> [u8; 15]
         15 => *b"IllTyped       ",
         16 => *b"TreeTooLarge   ",
         17 => *b"NoEntry        ",
+        19 => *b"TreeTooTall    ",
         _ => *b"               ",
     }
 }

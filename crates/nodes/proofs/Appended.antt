@@ -17,18 +17,18 @@ use Rattle.nodes.specs.declared.Added.the-variants.{At, Full}
 use Rattle.memory.specs.Layout.{workWords, maxNodes, maxRows, rowsFrom, wordAt, nodeCount, tableCount, rowCount}
 use Rattle.nodes.specs.Words.{nodeAt, rowChild}
 use Rattle.nodes.specs.Views.{seenAs, firstNodes, seen, offered}
-use Rattle.nodes.specs.Answers.{threshKind, NodeHolds, Holds, Grows, SameTables, Fresh, OneMore, Adds, at, OneRow, Begun}
+use Rattle.nodes.specs.Answers.{threshKind, maxFigure, NodeHolds, Holds, Grows, SameTables, Fresh, OneMore, Adds, at, OneRow, Begun}
 use Rattle.nodes.specs.Stored.{FitExt, WordsAre, RowWordsAre}
 use Rattle.nodes.proofs.Packed.{entered-fits}
 use Rattle.nodes.proofs.Stored.{node-same, node-is, row-same, row-same-in, row-again, child-is, Put, put-leaves}
 use Rattle.nodes.proofs.Seen.{seen-at}
 use Rattle.nodes.proofs.Grown.{below-or, first-same, as-same}
 
-node-as : (m : List ℕ) (i : ℕ) (y : Candidate) → nodeAt m i ≡ y → Entered i (y .ext) → (y .kind ≡ threshKind → y .second < rowCount m)
+node-as : (m : List ℕ) (i : ℕ) (y : Candidate) → nodeAt m i ≡ y → Entered maxFigure (y .ext) → (y .kind ≡ threshKind → y .second < rowCount m)
     → NodeHolds m i
 node-as m i y e a b =
     record {
-      entered = subst (λ (z : Candidate). Entered i (z .ext)) (sym e) a;
+      entered = subst (λ (z : Candidate). Entered maxFigure (z .ext)) (sym e) a;
       rowed = subst (λ (z : Candidate). z .kind ≡ threshKind → z .second < rowCount m) (sym e) b;
     }
 
@@ -98,8 +98,8 @@ module _ {m₀ m : List ℕ} {x : Candidate} {ws : List ℕ} (holds : Holds m₀
       }
 
 -- what a candidate that may become a node asks of its words
-pub fresh-fits : {m : List ℕ} {x : Candidate} → nodeCount m ≤ maxNodes → (nodeCount m ≡ maxNodes → ⊥) → Fresh m x → (x .kind < 0x40) × FitExt (x .ext)
-fresh-fits {m} {x} few left fresh = (fresh .kind, entered-fits (nodeCount m) (x .ext) (omega arith) (fresh .entered))
+pub fresh-fits : {m : List ℕ} {x : Candidate} → Fresh m x → (x .kind < 0x40) × FitExt (x .ext)
+fresh-fits {x} fresh = (fresh .kind, entered-fits maxFigure (x .ext) (omega arith) (fresh .entered))
 
 pub added : {m₀ m₁ m : List ℕ} {x : Candidate} {ws : List ℕ} → Holds m₀ → Fresh m₀ x → (nodeCount m₀ ≡ maxNodes → ⊥) → WordsAre x ws
     → m₁ ≡ sets m₀ (8 * nodeCount m₀ + 8) ws → m ≡ set m₁ 0 (nodeCount m₀ + 1) → Adds m₀ m x (At (nodeCount m₀))
@@ -248,8 +248,8 @@ module _ (m₀ no yes : List ℕ) (long : length m₀ ≡ workWords) (falseWords
       (λ k l. sets-in yes (sets start 8 no) 16 k 0 (omega (arith, yes-long)) (omega (arith, yes-long, one-long)))
 
   each-of-two : (i : ℕ) → i < 2 → NodeHolds both i
-  each-of-two zero l = node-as both 0 FALSE node-0 (false-entered 0) (λ k. absurd (omega arith))
-  each-of-two (suc zero) l = node-as both 1 TRUE node-1 (true-entered 1) (λ k. absurd (omega arith))
+  each-of-two zero l = node-as both 0 FALSE node-0 (false-entered maxFigure) (λ k. absurd (omega arith))
+  each-of-two (suc zero) l = node-as both 1 TRUE node-1 (true-entered maxFigure) (λ k. absurd (omega arith))
   each-of-two (suc (suc i)) l = absurd (omega arith)
 
   begun-both : Begun both

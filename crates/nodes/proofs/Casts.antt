@@ -28,7 +28,7 @@ use Rattle.nodes.specs.Views.{treeOf, seenAs, seen, offered}
 use Rattle.nodes.specs.Answers.{Holds}
 use Rattle.nodes.specs.Offers.{Offerable}
 use Rattle.nodes.proofs.Seen.{Shows, TreeIs, seen-fields, seen-false, seen-true}
-use Rattle.nodes.proofs.Offers.{both-true, plainKind, made-offers}
+use Rattle.nodes.proofs.Offers.{both-true, plainKind, plain-offers}
 
 -- what the code's cast stands for
 abbrev pub castSeen : (pol m : List ℕ) → CastResult → Option Candidate
@@ -105,4 +105,4 @@ pub cast-fresh : {m : List ℕ} → Holds m → {e : ℕ} → e < nodeCount m �
     → castOf c n (nodeAt m e) e ≡ Cast y → Offerable m y
 unfolding allPlain
 cast-fresh {m} holds {e} l c n is =
-    made-offers e l (cast-kept (nodeAt m e) (holds .nodes e l .entered) e c n is) (plain-from (casts.allCasts c) refl n (nodeAt m e) e is)
+    plain-offers (cast-kept (nodeAt m e) (holds .nodes e l .entered) e c n is) (plain-from (casts.allCasts c) refl n (nodeAt m e) e is)

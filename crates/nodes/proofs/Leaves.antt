@@ -20,7 +20,7 @@ use Rattle.definition.specs.Search as definition-search
 use Rattle.definition.specs.Search.{policyOf, keyOr, searcher, searchers}
 use Rattle.candidates.specs.declared.Candidate.{Candidate}
 use Rattle.candidates.specs.Leaves.{FALSE, TRUE, pkK, pkH, after, older, sha256, hash256, ripemd160, hash160, multi, multiA}
-use Rattle.memory.specs.Layout.{nodeCount}
+use Rattle.trees.specs.Height.{maxHeight}
 use Rattle.nodes.specs.Views.{treeOf, seenAs, allNodes, offered, keysOf}
 use Rattle.nodes.specs.Offers.{Offerable}
 use Rattle.nodes.proofs.Offers.{plain-offers}
@@ -127,37 +127,37 @@ keys-are c (x ▹ xs) keys is =
 
 module _ (m : List ℕ) where
   pub false-offers : Offerable m FALSE
-  false-offers = plain-offers (entering.entered-candidate (entering.false-entered (nodeCount m))) refl
+  false-offers = plain-offers (entering.entered-candidate (entering.false-entered maxHeight)) refl
 
   pub true-offers : Offerable m TRUE
-  true-offers = plain-offers (entering.entered-candidate (entering.true-entered (nodeCount m))) refl
+  true-offers = plain-offers (entering.entered-candidate (entering.true-entered maxHeight)) refl
 
   pub pk-k-offers : (c : Context) (held : ℕ) → Offerable m (pkK c held)
-  pk-k-offers c held = plain-offers (entering.pk-k-candidate (nodeCount m) c) refl
+  pk-k-offers c held = plain-offers (entering.pk-k-candidate maxHeight c) refl
 
   pub pk-h-offers : (c : Context) (held : ℕ) → Offerable m (pkH c held)
-  pk-h-offers c held = plain-offers (entering.pk-h-candidate (nodeCount m) c) refl
+  pk-h-offers c held = plain-offers (entering.pk-h-candidate maxHeight c) refl
 
   pub after-offers : (t held : ℕ) → Offerable m (after t held)
-  after-offers t held = plain-offers (entering.after-candidate (nodeCount m) t) refl
+  after-offers t held = plain-offers (entering.after-candidate maxHeight t) refl
 
   pub older-offers : (t held : ℕ) → Offerable m (older t held)
-  older-offers t held = plain-offers (entering.older-candidate (nodeCount m) t) refl
+  older-offers t held = plain-offers (entering.older-candidate maxHeight t) refl
 
   pub sha256-offers : (held : ℕ) → Offerable m (sha256 held)
-  sha256-offers held = plain-offers (entering.sha256-candidate (nodeCount m)) refl
+  sha256-offers held = plain-offers (entering.sha256-candidate maxHeight) refl
 
   pub hash256-offers : (held : ℕ) → Offerable m (hash256 held)
-  hash256-offers held = plain-offers (entering.hash256-candidate (nodeCount m)) refl
+  hash256-offers held = plain-offers (entering.hash256-candidate maxHeight) refl
 
   pub ripemd160-offers : (held : ℕ) → Offerable m (ripemd160 held)
-  ripemd160-offers held = plain-offers (entering.ripemd160-candidate (nodeCount m)) refl
+  ripemd160-offers held = plain-offers (entering.ripemd160-candidate maxHeight) refl
 
   pub hash160-offers : (held : ℕ) → Offerable m (hash160 held)
-  hash160-offers held = plain-offers (entering.hash160-candidate (nodeCount m)) refl
+  hash160-offers held = plain-offers (entering.hash160-candidate maxHeight) refl
 
   pub multi-offers : (k n held : ℕ) → k ≤ n → n ≤ 16 → Offerable m (multi k n held)
-  multi-offers k n held le few = plain-offers (entering.multi-candidate (nodeCount m) k n le few) refl
+  multi-offers k n held le few = plain-offers (entering.multi-candidate maxHeight k n le few) refl
 
   pub multi-a-offers : (k n held : ℕ) → 1 ≤ k → k ≤ n → n ≤ 16 → Offerable m (multiA k n held)
-  multi-a-offers k n held one le few = plain-offers (entering.multi-a-candidate (nodeCount m) k n one le few) refl
+  multi-a-offers k n held one le few = plain-offers (entering.multi-a-candidate maxHeight k n one le few) refl

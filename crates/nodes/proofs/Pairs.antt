@@ -4,7 +4,6 @@ use mathlib.Core.Path.{_≡_, refl, sym, _∙_, ap}
 use mathlib.Core.Bool.{Bool, true, false, cond, _&&_}
 use mathlib.Core.List.{List, [], _∷_}
 use Prim.Native.Nat.{ℕ, _-_, _<_, _≤_}
-use native.Mathlib.Omega.{arith}
 use lib.Dec.{eqb}
 use lib.Ieee.{Float}
 use Rattle.types.specs.declared.TypeResult.{TypeResult}
@@ -31,7 +30,7 @@ use Rattle.nodes.specs.Views.{treeOf, seenAs, seen, offered}
 use Rattle.nodes.specs.Answers.{Holds}
 use Rattle.nodes.specs.Offers.{Offerable, madeSeen}
 use Rattle.nodes.proofs.Seen.{Shows, TreeIs, seen-fields}
-use Rattle.nodes.proofs.Offers.{both-true, plainKind, made-offers, node-entered}
+use Rattle.nodes.proofs.Offers.{both-true, plainKind, plain-offers, node-entered}
 
 -- ---- what a pair stands for
 
@@ -172,33 +171,19 @@ module _ (x : code.Candidate) (l : ℕ) (y : code.Candidate) (r : ℕ) (lprob rp
       plain-next (eqb kind (row .kind)) row (pairFrom rows kind x l y r lprob rprob) (both .0) (plain-from rows (both .1) kind) m
 
 module _ {m : List ℕ} (holds : Holds m) where
-  -- the highest node
-  top : ℕ
-  top = nodeCount m - 1
-
-  top-there : top < nodeCount m
-  unfolding top
-  top-there = omega (arith, holds .two)
-
-  below-top : (e : ℕ) → e < nodeCount m → e ≤ top
-  unfolding top
-  below-top e h = omega arith
-
   pub pair-fresh : {l r : ℕ} → l < nodeCount m → r < nodeCount m → (lprob rprob : Float) (kind : ℕ) {y : code.Candidate}
       → pairOf kind (nodeAt m l) l (nodeAt m r) r lprob rprob ≡ Made.Candidate y → Offerable m y
   unfolding allPlain
   pair-fresh {l} {r} hl hr lprob rprob kind is =
-      made-offers top top-there
-      (pair-kept (nodeAt m l) (nodeAt m r) (node-entered holds l top hl (below-top l hl)) (node-entered holds r top hr (below-top r hr))
-      l r lprob rprob kind is)
+      plain-offers (pair-kept (nodeAt m l) (nodeAt m r) (node-entered holds hl) (node-entered holds hr) l r lprob rprob kind is)
       (plain-from (nodeAt m l) l (nodeAt m r) r lprob rprob pairs.allPairs refl kind is)
 
   pub and-or-fresh : {a b c : ℕ} → a < nodeCount m → b < nodeCount m → c < nodeCount m → (lprob rprob : Float) {y : code.Candidate}
       → andOr (nodeAt m a) a (nodeAt m b) b (nodeAt m c) c lprob rprob ≡ Made.Candidate y → Offerable m y
   and-or-fresh {a} {b} {c} ha hb hc lprob rprob is =
-      made-offers top top-there
-      (and-or-kept (nodeAt m a) (nodeAt m b) (nodeAt m c) (node-entered holds a top ha (below-top a ha))
-      (node-entered holds b top hb (below-top b hb)) (node-entered holds c top hc (below-top c hc)) a b c lprob rprob is)
+      plain-offers
+      (and-or-kept (nodeAt m a) (nodeAt m b) (nodeAt m c) (node-entered holds ha) (node-entered holds hb) (node-entered holds hc)
+      a b c lprob rprob is)
       (ap plainKind
       (sym
       (made-kind 55 a b c (type.andOr (nodeAt m a .ty) (nodeAt m b .ty) (nodeAt m c .ty))

@@ -3,9 +3,10 @@ use mathlib.Core.Path.{_≡_, refl, sym, _∙_, ap}
 use mathlib.Core.Bool.{Bool, true, false, cond, _&&_}
 use mathlib.Core.List.{List, [], _∷_}
 use mathlib.Core.Option.{some}
-use Prim.Native.Nat.{ℕ}
+use Prim.Native.Nat.{ℕ, suc, _<_}
+use native.Mathlib.Omega.{arith}
 use borrow.Author.Tests.{eqb-true}
-use lib.Dec.{eqb}
+use lib.Dec.{eqb, leb}
 use Rattle.contexts.specs.declared.Context.{Context}
 use Rattle.contexts.specs.declared.Context.the-variants.{Segwitv0, Tap}
 use Rattle.figures.specs.declared.ExtData.{ExtData}
@@ -14,6 +15,7 @@ use Rattle.figures.proofs.Entering.{valid-entered}
 use Rattle.costs.specs.Cost1d.{cost1d}
 use Rattle.trees.specs.Fragment.{Fragment}
 use Rattle.trees.specs.Tree.{Line, find}
+use Rattle.trees.specs.Height.{maxHeight}
 use Rattle.definition.specs.Candidates.{kindOf}
 use Rattle.definition.specs.Tables.{Table, Probs, costAt}
 use Rattle.definition.specs.Insertion.{worthwhile}
@@ -82,14 +84,25 @@ valid-kind pol m xs x c = ap (λ (k : ℕ). checkLocalValidity c k (x .ext)) (tr
 -- ---- what is asked of a candidate
 
 module _ (pol m : List ℕ) (x : Candidate) where
-  pub worthwhile-is : (c : Context) → worthwhile c (offered pol m x) ≡ (x .ty .mall .«non_malleable» && checkLocalValidity c (x .kind) (x .ext))
+  pub worthwhile-is : (c : Context)
+      → worthwhile c (offered pol m x)
+      ≡ ((x .ty .mall .«non_malleable» && checkLocalValidity c (x .kind) (x .ext)) && leb (suc (x .ext .«tree_height»)) maxHeight)
   unfolding seenAs
-  worthwhile-is c = ap (λ (b : Bool). x .ty .mall .«non_malleable» && b) (valid-kind pol m (allNodes pol m) x c)
+  worthwhile-is c =
+      ap (λ (b : Bool). (x .ty .mall .«non_malleable» && b) && leb (suc (x .ext .«tree_height»)) maxHeight)
+      (valid-kind pol m (allNodes pol m) x c)
 
   pub cost-is : (p : Probs) → costAt p (offered pol m x) ≡ cost1d (x .ext .«pk_cost») (x .cost) (p .sat) (p .dissat)
   unfolding seenAs
   cost-is p = refl
 
--- what may be offered, and is valid, may become a node
-pub valid-fresh : {m : List ℕ} {x : Candidate} (c : Context) → Offerable m x → checkLocalValidity c (x .kind) (x .ext) ≡ true → Fresh m x
-valid-fresh {m} {x} c o v = record { entered = valid-entered c (x .kind) (o .candidate) v; kind = o .kind; rowed = o .rowed }
+-- what may be offered, is valid and not too tall, may become a node
+pub valid-fresh : {m : List ℕ} {x : Candidate} (c : Context) → Offerable m x → checkLocalValidity c (x .kind) (x .ext) ≡ true
+    → x .ext .«tree_height» < maxHeight → Fresh m x
+valid-fresh {m} {x} c o v l =
+    let entered = valid-entered c (x .kind) (o .candidate) v in
+    record {
+      entered = record { within = entered .within; cost = entered .cost; low = omega arith };
+      kind = o .kind;
+      rowed = o .rowed;
+    }

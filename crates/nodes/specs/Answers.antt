@@ -15,9 +15,13 @@ use Rattle.nodes.specs.Views.{seen, offered}
 abbrev pub threshKind : ℕ
 threshKind = 56
 
--- the figures of node i have entered a table, no higher than i; a Thresh has a row that is there
+-- a node is at most 128 high: the figure of its height begins with 0 at a leaf
+abbrev pub maxFigure : ℕ
+maxFigure = 127
+
+-- the figures of node i have entered a table, and it is not too tall; a Thresh has a row that is there
 pub record NodeHolds (m : List ℕ) (i : ℕ) : Type 0 where
-  pub entered : Entered i (nodeAt m i .ext)
+  pub entered : Entered maxFigure (nodeAt m i .ext)
   pub rowed : nodeAt m i .kind ≡ threshKind → nodeAt m i .second < rowCount m
 
 -- False and True are the first two nodes
@@ -44,7 +48,7 @@ pub record SameTables (m₀ m : List ℕ) : Type 0 where
 
 -- a candidate that may become the next node
 pub record Fresh (m : List ℕ) (x : Candidate) : Type 0 where
-  pub entered : Entered (nodeCount m) (x .ext)
+  pub entered : Entered maxFigure (x .ext)
   pub kind : x .kind < 64
   pub rowed : x .kind ≡ threshKind → x .second < rowCount m
 

@@ -74,6 +74,7 @@ fn show_meaning(number: u32) -> bool {
         ),
         16 => say(b"the tree has more than 4096 records\n"),
         17 => say(b"a number of the tree has no whole entry in its table\n"),
+        19 => say(b"the tree is more than 128 high\n"),
         _ => true,
     }
 }

@@ -40,7 +40,9 @@ unfolding checkOf
 passed context c tree words x known e = go (eqb words maxRecords) refl
   where
     go : (b : Bool) → eqb words maxRecords ≡ b → (treeOf tree ≡ done (x .tree)) × (typeOf c (x .tree) ≡ Ok (x .type))
-    go true w = let same = eqb-true words maxRecords w in passes-well-typed-trees context c tree x known .0 (rw same at e)
+    go true w =
+        let same = eqb-true words maxRecords w in
+        let known-of = passes-well-typed-trees context c tree x known .0 (rw same at e) in (known-of .0, known-of .1)
     go false w = absurd (refused≢done (rw (known, w) at e))
 
 -- it has all its entries, and its script is what was written

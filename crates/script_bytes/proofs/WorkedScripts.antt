@@ -5,6 +5,7 @@ use Rattle.records.specs.Numbers.{u16s, u32s}
 use Rattle.records.specs.Shapes.{lookUp, shapeOf}
 use Rattle.records.specs.Payloads.{payloadOf}
 use Rattle.trees.specs.Typing.{typeOf}
+use Rattle.trees.specs.Height.{heightOf}
 use Rattle.trees.specs.Reading.{takeAll, rootOf, addRecord, readFrom, readTree}
 use Rattle.trees.specs.Tree.{find}
 use Rattle.trees.specs.TreeCheck.{typedTreeOf, checkOf}
@@ -20,7 +21,7 @@ unfolding allHold same scriptBytes encode pushBytes ⟦_⟧ sum adds mergeVerify
 worked-scripts = refl
 
 pub worked-answers : WorkedAnswers
-unfolding scriptOf checkOf typedTreeOf readTree readFrom addRecord takeAll rootOf find typeOf payloadOf lookUp shapeOf u16s u32s leAt little
+unfolding scriptOf checkOf typedTreeOf readTree readFrom addRecord takeAll rootOf find typeOf heightOf payloadOf lookUp shapeOf u16s u32s leAt little
     hasEntries scriptBytes encode pushBytes ⟦_⟧ mergeVerify form
 worked-answers = record {
   written = refl;

@@ -31,7 +31,7 @@ use Rattle.cache.proofs.Tables.{slots-count}
 use Rattle.memory.specs.Layout.{nodeCount, rowCount, rowsFrom}
 use Rattle.nodes.specs.Words.{nodeAt}
 use Rattle.nodes.specs.Views.{seen, seenAll}
-use Rattle.nodes.specs.Answers.{threshKind, NodeHolds, Holds, Grows}
+use Rattle.nodes.specs.Answers.{threshKind, maxFigure, NodeHolds, Holds, Grows}
 use Rattle.nodes.proofs.Stored.{node-same, row-same-in}
 use Rattle.table.specs.declared.Table.{Table}
 use Rattle.table.specs.Rows.{rows, TableHolds}
@@ -77,7 +77,7 @@ module _ {m₀ m : List ℕ} (holds : Holds m₀) (same : SameNodes m₀ m) wher
   node-holds i h =
       let old = holds .nodes i h in
       record {
-        entered = subst (λ (x : code.Candidate). Entered i (x .ext)) (sym (same-node i h)) (old .entered);
+        entered = subst (λ (x : code.Candidate). Entered maxFigure (x .ext)) (sym (same-node i h)) (old .entered);
         rowed =
             subst (λ (x : code.Candidate). x .kind ≡ threshKind → x .second < rowCount m) (sym (same-node i h))
             (λ k. omega (arith, old .rowed k, same-rows));

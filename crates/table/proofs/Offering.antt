@@ -2,7 +2,7 @@
 use mathlib.Core.Path.{_≡_, refl, sym, _∙_, ap, subst}
 use mathlib.Core.List.{List}
 use mathlib.Core.Bool.{Bool, true, false, _&&_}
-use Prim.Native.Nat.{ℕ, suc, _-_, _<_}
+use Prim.Native.Nat.{ℕ, suc, _-_, _<_, _≤_}
 use native.Mathlib.Omega.{arith}
 use borrow.Author.Tests.{le-leb, lt-leb}
 use lib.Dec.{leb}
@@ -13,6 +13,7 @@ use Rattle.figures.specs.Bounds.{Small}
 use Rattle.figures.specs.Validity.{checkLocalValidity}
 use Rattle.figures.proofs.Entering.{candidate-small}
 use Rattle.writing.specs.WellFormed.{AllBelow}
+use Rattle.trees.specs.Height.{maxHeight}
 use Rattle.candidates.specs.declared.Candidate as code
 use Rattle.definition.specs.Tables as definition
 use Rattle.definition.specs.Tables.{Probs, costAt, enter}
@@ -35,8 +36,8 @@ use Rattle.table.proofs.Loops.{rows-length}
 use Rattle.table.proofs.Bridges.{below-those, below-enter, pricedOf, priced-offered, any-seen, filter-seen, enter-seen}
 use Rattle.table.proofs.Kept.{extends-refl, table-kept, seen-table-kept}
 
-pub offered-small : {m : List ℕ} {x : code.Candidate} → Holds m → Offerable m x → Small (x .ext)
-offered-small h o = candidate-small (o .candidate) (omega (arith, h .few))
+pub offered-small : {m : List ℕ} {x : code.Candidate} → Offerable m x → Small (x .ext)
+offered-small o = candidate-small (o .candidate) (omega arith)
 
 -- ---- what adding a node answered
 
@@ -59,6 +60,7 @@ added-at {e} (at {e = k} number room more) is = let same : k ≡ e = cc in recor
 pub record Worth (c : Context) (x : code.Candidate) : Type 0 where
   pub sound : x .ty .mall .«non_malleable» ≡ true
   pub valid : checkLocalValidity c (x .kind) (x .ext) ≡ true
+  pub low : x .ext .«tree_height» < maxHeight
 
 -- it is compared by y, and has a cost
 pub record Costed (p : Probs) (x : code.Candidate) (y : Priced) : Type 0 where
@@ -72,10 +74,10 @@ pub record Leaves (m : List ℕ) (p : Probs) (y : Priced) (t u : Table) : Type 0
   pub long : length (u .entries) ≡ maxEntries
 
 is-worth : {c : Context} {x : code.Candidate} → Worth c x → (pol m : List ℕ) → worthwhile c (offered pol m x) ≡ true
-is-worth {c} {x} w pol m = worthwhile-is pol m x c ∙ both (w .sound) (w .valid)
+is-worth {c} {x} w pol m = worthwhile-is pol m x c ∙ all-three (w .sound) (w .valid) (le-leb _ _ (w .low))
   where
-    both : {a b : Bool} → a ≡ true → b ≡ true → (a && b) ≡ true
-    both h k = rw (h, k)
+    all-three : {a b c : Bool} → a ≡ true → b ≡ true → c ≡ true → ((a && b) && c) ≡ true
+    all-three h k l = rw (h, k, l)
 
 is-cost : (p : Probs) (x : code.Candidate) {y : Priced} {b : Bool} → y ≡ pricedAs p x → isPrice (y .cost) ≡ b → (pol m : List ℕ)
     → isPrice (costAt p (offered pol m x)) ≡ b
@@ -93,12 +95,23 @@ module _ {c : Context} {p : Probs} {x : code.Candidate} {t : Table} {m : List �
   pub malleable : x .ty .mall .«non_malleable» ≡ false → Inserted c p x t (record { table = t; offer = TurnedAway }) m m
   malleable n =
       stays (λ pol ts. insert-unworthy c p (offered pol m x) (seenTable pol m t) (stateOf m ts)
-      (worthwhile-is pol m x c ∙ ap (λ (b : Bool). b && checkLocalValidity c (x .kind) (x .ext)) n))
+      (worthwhile-is pol m x c ∙ rw n))
 
   pub invalid : x .ty .mall .«non_malleable» ≡ true → checkLocalValidity c (x .kind) (x .ext) ≡ false
       → Inserted c p x t (record { table = t; offer = TurnedAway }) m m
   invalid n v =
       stays (λ pol ts. insert-unworthy c p (offered pol m x) (seenTable pol m t) (stateOf m ts) (worthwhile-is pol m x c ∙ rw (n, v)))
+
+  pub too-tall : maxHeight ≤ x .ext .«tree_height» → Inserted c p x t (record { table = t; offer = TurnedAway }) m m
+  too-tall h =
+      stays (λ pol ts. insert-unworthy c p (offered pol m x) (seenTable pol m t) (stateOf m ts)
+      (worthwhile-is pol m x c
+      ∙ and-false (x .ty .mall .«non_malleable» && checkLocalValidity c (x .kind) (x .ext))
+      (lt-leb (suc (x .ext .«tree_height»)) maxHeight (omega arith))))
+    where
+      and-false : (a : Bool) {b : Bool} → b ≡ false → (a && b) ≡ false
+      and-false true h = h
+      and-false false h = refl
 
   pub costless : {y : Priced} → Worth c x → y ≡ pricedAs p x → isPrice (y .cost) ≡ false
       → Inserted c p x t (record { table = t; offer = Refused 10 }) m m

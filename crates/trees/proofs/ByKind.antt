@@ -4,7 +4,7 @@ use mathlib.Core.List.{List, [], _∷_}
 use mathlib.Core.Option.{none, some}
 use mathlib.Core.Path.{_≡_, refl, sym, ap, subst, _∙_}
 use native.Mathlib.Omega.{arith}
-use borrow.Author.Tests.{le-leb, lt-leb, ne-eqb, le-ltb}
+use borrow.Author.Tests.{le-leb, lt-leb, ne-eqb}
 use lib.ListN.{length, getD, take}
 use Rattle.records.specs.Shapes.{arity}
 use Rattle.records.proofs.Arities.{arity-one, arity-two, arity-below, arity-above}
@@ -17,7 +17,7 @@ use Rattle.trees.specs.Reading.{Answer, done}
 use Rattle.trees.specs.Tree.{find}
 use Rattle.trees.specs.Typing.{inSegwitv0, inTap}
 use Rattle.trees.specs.Rules.{answered, ruleOf}
-use Rattle.trees.specs.WorkMemory.{slotOf, unpacked}
+use Rattle.trees.specs.WorkMemory.{slotFrom, unpacked}
 
 -- ---- kinds, one by one
 
@@ -88,12 +88,11 @@ module _ (kind count k : ℕ) (c : Context) (types : List «Type») where
 
 -- ---- words
 
-pub slot-large : (w : ℕ) → 960 < w → slotOf w ≡ none
-slot-large zero h = absurd (omega arith)
-slot-large (suc n) h = rw (le-ltb n 960 (omega arith))
+pub slot-empty : (h p : ℕ) → p ≡ 0 → none ≡ slotFrom h p
+slot-empty h p e = rw e
 
-pub slot-small : (w : ℕ) → 0 < w → slotOf w ≡ unpacked (unpack (w - 1))
-slot-small zero h = absurd (omega arith)
-slot-small (suc n) h =
+pub slot-full : (h p : ℕ) → 0 < p → slotFrom h p ≡ unpacked h (unpack (p - 1))
+slot-full h zero l = absurd (omega arith)
+slot-full h (suc n) l =
     let e : suc n - 1 ≡ n = omega arith in
     rw e

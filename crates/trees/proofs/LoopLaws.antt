@@ -12,14 +12,14 @@ use lib.Seq.{drop-drop}
 use Rattle.records.specs.Payloads.{Payload, childrenOf}
 use Rattle.records.specs.RecordForm.{recordLength, kindOf, fragmentPayload}
 use Rattle.records.proofs.Laws.{length-bounds}
-use Rattle.types.specs.declared.«Type».{«Type»}
 use Rattle.contexts.specs.declared.Context.{Context}
+use Rattle.trees.specs.declared.Subtree.{Subtree}
 use Rattle.trees.specs.declared.Step.{Step}
 use Rattle.trees.specs.declared.Step.the-variants as Step
-use Rattle.trees.specs.Reading.{Answer, refused, done, _>>=_, orRefuse, badTree, illTyped, treeTooLarge, maxRecords}
+use Rattle.trees.specs.Reading.{Answer, refused, done, _>>=_, orRefuse, badTree, illTyped, treeTooLarge, treeTooTall, maxRecords}
 use Rattle.trees.specs.Reading.{Slots, Taken, takeAll, rootOf, addMade, addPayload, addRecord, readFrom, readTree}
-use Rattle.trees.specs.Rules.{makeType}
-use Rattle.trees.specs.WorkMemory.{slotsIn, freeIn, stepAnswer, FreeAfter, Stepped}
+use Rattle.trees.specs.Rules.{makeSubtree}
+use Rattle.trees.specs.WorkMemory.{slotsIn, freeIn, typeIn, stepAnswer, FreeAfter, Stepped}
 use Rattle.trees.proofs.Joint.{IfDone, refuses, holds}
 use Rattle.trees.proofs.Counting.{lastOf, RootByCount, count-none, count-more, free-le}
 use Rattle.trees.proofs.InMemory.{slots-length}
@@ -54,7 +54,7 @@ module _ {A : Type 0} (make : ℕ → Payload → List A → Answer A) where
 
 -- the first `at` bytes hold `read` records, of which `free` are free, and the bytes behind them decide
 pub record Progress (c : Context) (tree work : List ℕ) (at read free : ℕ) : Type 0 where
-  pub rest : readFrom (makeType c) (maxRecords - read) (slotsIn work read) (drop at tree) ≡ readTree (makeType c) tree
+  pub rest : readFrom (makeSubtree c) (maxRecords - read) (slotsIn work read) (drop at tree) ≡ readTree (makeSubtree c) tree
   pub within : at ≤ length tree
   pub few : read ≤ maxRecords
   pub room : length work ≡ maxRecords
@@ -88,19 +88,19 @@ module _ {c : Context} {tree work : List ℕ} {at read free : ℕ} (so-far : Pro
       let n = slots-length work read (omega arith) in
       omega arith
 
-  pub progress-large : at < length tree → read ≡ maxRecords → refused treeTooLarge ≡ readTree (makeType c) tree
+  pub progress-large : at < length tree → read ≡ maxRecords → refused treeTooLarge ≡ typeIn (readTree (makeSubtree c) tree)
   progress-large h e =
       let z : maxRecords - read ≡ 0 = omega arith in
-      sym (read-large (makeType c) (slotsIn work read) (drop at tree) (some-left tree at h))
-      ∙ ap (λ (n : ℕ). readFrom (makeType c) n (slotsIn work read) (drop at tree)) (sym z)
-      ∙ so-far .rest
+      ap typeIn (sym (read-large (makeSubtree c) (slotsIn work read) (drop at tree) (some-left tree at h))
+      ∙ ap (λ (n : ℕ). readFrom (makeSubtree c) n (slotsIn work read) (drop at tree)) (sym z)
+      ∙ so-far .rest)
 
   pub progress-broken : at < length tree → read < maxRecords → recordLength (drop at tree) ≡ none
-      → refused badTree ≡ readTree (makeType c) tree
+      → refused badTree ≡ typeIn (readTree (makeSubtree c) tree)
   progress-broken h l e =
-      sym (read-broken (makeType c) (maxRecords - (read + 1)) (slotsIn work read) (drop at tree) (some-left tree at h) e)
-      ∙ ap (λ (n : ℕ). readFrom (makeType c) n (slotsIn work read) (drop at tree)) (sym (one-less read l))
-      ∙ so-far .rest
+      ap typeIn (sym (read-broken (makeSubtree c) (maxRecords - (read + 1)) (slotsIn work read) (drop at tree) (some-left tree at h) e)
+      ∙ ap (λ (n : ℕ). readFrom (makeSubtree c) n (slotsIn work read) (drop at tree)) (sym (one-less read l))
+      ∙ so-far .rest)
 
 -- ---- after a record
 
@@ -111,25 +111,28 @@ module _ {c : Context} {tree work : List ℕ} {at read free len : ℕ} (turn : T
   pub end-later : at < at + len
   end-later = omega (arith, length-bounds (drop at tree) (turn .whole))
 
-  after-record : {a : Answer (Slots «Type»)} → addRecord (makeType c) (slotsIn work read) (take (at + len - at) (drop at tree)) ≡ a
-      → (a >>= λ slots. readFrom (makeType c) (maxRecords - (read + 1)) slots (drop len (drop at tree))) ≡ readTree (makeType c) tree
+  after-record : {a : Answer (Slots Subtree)} → addRecord (makeSubtree c) (slotsIn work read) (take (at + len - at) (drop at tree)) ≡ a
+      → (a >>= λ slots. readFrom (makeSubtree c) (maxRecords - (read + 1)) slots (drop len (drop at tree))) ≡ readTree (makeSubtree c) tree
   after-record {a} f =
       let same : at + len - at ≡ len = omega arith in
-      let f′ = subst (λ (n : ℕ). addRecord (makeType c) (slotsIn work read) (take n (drop at tree)) ≡ a) same f in
-      sym (read-next (makeType c) (maxRecords - (read + 1)) (slotsIn work read) (drop at tree) len (some-left tree at (turn .inside))
+      let f′ = subst (λ (n : ℕ). addRecord (makeSubtree c) (slotsIn work read) (take n (drop at tree)) ≡ a) same f in
+      sym (read-next (makeSubtree c) (maxRecords - (read + 1)) (slotsIn work read) (drop at tree) len (some-left tree at (turn .inside))
       (turn .whole) f′)
-      ∙ ap (λ (n : ℕ). readFrom (makeType c) n (slotsIn work read) (drop at tree)) (sym (one-less read (turn .more)))
+      ∙ ap (λ (n : ℕ). readFrom (makeSubtree c) n (slotsIn work read) (drop at tree)) (sym (one-less read (turn .more)))
       ∙ turn .so-far .rest
 
   module _ {work′ : List ℕ} {r : Step} (stepped : Stepped c (take (at + len - at) (drop at tree)) work work′ read r) where
     pub same-room : {n : ℕ} → n ≡ maxRecords → length work′ ≡ n
     same-room e = stepped .same ∙ turn .so-far .room ∙ sym e
 
-    pub progress-bad : r ≡ Step.BadTree → refused badTree ≡ readTree (makeType c) tree
-    progress-bad t = after-record (stepped .says ∙ ap (λ (r : Step). stepAnswer r (slotsIn work′ (read + 1))) t)
+    pub progress-bad : r ≡ Step.BadTree → refused badTree ≡ typeIn (readTree (makeSubtree c) tree)
+    progress-bad t = ap typeIn (after-record (stepped .says ∙ ap (λ (r : Step). stepAnswer r (slotsIn work′ (read + 1))) t))
 
-    pub progress-ill : r ≡ Step.IllTyped → refused illTyped ≡ readTree (makeType c) tree
-    progress-ill t = after-record (stepped .says ∙ ap (λ (r : Step). stepAnswer r (slotsIn work′ (read + 1))) t)
+    pub progress-ill : r ≡ Step.IllTyped → refused illTyped ≡ typeIn (readTree (makeSubtree c) tree)
+    progress-ill t = ap typeIn (after-record (stepped .says ∙ ap (λ (r : Step). stepAnswer r (slotsIn work′ (read + 1))) t))
+
+    pub progress-tall : r ≡ Step.TooTall → refused treeTooTall ≡ typeIn (readTree (makeSubtree c) tree)
+    progress-tall t = ap typeIn (after-record (stepped .says ∙ ap (λ (r : Step). stepAnswer r (slotsIn work′ (read + 1))) t))
 
     pub progress-free : {children : ℕ} → r ≡ Step.Next children → freeIn (slotsIn work′ (read + 1)) + children ≡ free + 1
     progress-free t =
@@ -141,37 +144,37 @@ module _ {c : Context} {tree work : List ℕ} {at read free len : ℕ} (turn : T
         let says = stepped .says ∙ ap (λ (r : Step). stepAnswer r (slotsIn work′ (read + 1))) t in
         record {
           rest =
-              ap (λ (s : List ℕ). readFrom (makeType c) (maxRecords - (read + 1)) (slotsIn work′ (read + 1)) s) (sym (drop-drop len at tree))
+              ap (λ (s : List ℕ). readFrom (makeSubtree c) (maxRecords - (read + 1)) (slotsIn work′ (read + 1)) s) (sym (drop-drop len at tree))
               ∙ after-record says;
           within = end-within;
           few = omega (arith, turn .more);
           room = stepped .same ∙ turn .so-far .room;
           count = omega (arith, progress-free t);
-          root = counted-after (makeType c) (slotsIn work read) (take (at + len - at) (drop at tree)) (slotsIn work′ (read + 1)) says;
+          root = counted-after (makeSubtree c) (slotsIn work read) (take (at + len - at) (drop at tree)) (slotsIn work′ (read + 1)) says;
         }
 
 -- ---- after all records
 
 module _ {c : Context} {tree work : List ℕ} {at read free : ℕ} (so-far : Progress c tree work at read free) where
-  at-end : length tree ≤ at → orRefuse badTree (rootOf (slotsIn work read)) ≡ readTree (makeType c) tree
+  at-end : length tree ≤ at → orRefuse badTree (rootOf (slotsIn work read)) ≡ readTree (makeSubtree c) tree
   at-end h =
-      sym (read-end (makeType c) (maxRecords - read) (slotsIn work read) (drop at tree) (rw (length-drop at tree) (omega arith)))
+      sym (read-end (makeSubtree c) (maxRecords - read) (slotsIn work read) (drop at tree) (rw (length-drop at tree) (omega arith)))
       ∙ so-far .rest
 
-  pub progress-unused : length tree ≤ at → (free ≡ 1 → ⊥) → refused badTree ≡ readTree (makeType c) tree
+  pub progress-unused : length tree ≤ at → (free ≡ 1 → ⊥) → refused badTree ≡ typeIn (readTree (makeSubtree c) tree)
   progress-unused h f =
       let not-one : eqb (freeIn (slotsIn work read)) 1 ≡ false = ne-eqb (freeIn (slotsIn work read)) 1 (λ e. f (so-far .count ∙ e)) in
       let none-is-root : rootOf (slotsIn work read) ≡ none = so-far .root ∙ rw not-one in
-      sym (ap (orRefuse badTree) none-is-root) ∙ at-end h
+      ap typeIn (sym (ap (orRefuse badTree) none-is-root) ∙ at-end h)
 
   pub progress-root : length tree ≤ at → free ≡ 1
-      → orRefuse badTree (getD (slotsIn work read) (read - 1) none) ≡ readTree (makeType c) tree
+      → typeIn (orRefuse badTree (getD (slotsIn work read) (read - 1) none)) ≡ typeIn (readTree (makeSubtree c) tree)
   progress-root h f =
       let one : eqb (freeIn (slotsIn work read)) 1 ≡ true = eq-eqb (freeIn (slotsIn work read)) 1 (sym (so-far .count) ∙ f) in
       let last : lastOf (slotsIn work read) ≡ getD (slotsIn work read) (read - 1) none =
       ap (λ (n : ℕ). getD (slotsIn work read) (n - 1) none) (slots-length work read (omega arith)) in
       let last-is-root : rootOf (slotsIn work read) ≡ getD (slotsIn work read) (read - 1) none = so-far .root ∙ rw one last in
-      sym (ap (orRefuse badTree) last-is-root) ∙ at-end h
+      ap typeIn (sym (ap (orRefuse badTree) last-is-root) ∙ at-end h)
 
   pub some-read : free ≡ 1 → 1 ≤ read
   some-read f =

@@ -9,28 +9,36 @@ use Rattle.records.specs.Payloads.{Payload, kOf, childrenOf}
 use Rattle.records.specs.RecordForm.{recordLength, kindOf, fragmentPayload}
 use Rattle.types.specs.declared.«Type».{«Type»}
 use Rattle.types.specs.declared.TypeResult.{TypeResult}
+use Rattle.types.specs.declared.TypeResult.the-variants.{Ok, IllTyped}
 use Rattle.contexts.specs.declared.Context.{Context}
+use Rattle.trees.specs.declared.Subtree.{Subtree}
 use Rattle.trees.specs.Reading.{Answer, refused, done, _>>=_, orRefuse, badTree, treeTooLarge}
 use Rattle.trees.specs.Reading.{Slots, Taken, takeAll, rootOf, addRecord, readFrom}
-use Rattle.trees.specs.Rules.{answered, ruleOf, makeType}
+use Rattle.trees.specs.TreeCheck.{ifLow}
+use Rattle.trees.specs.Rules.{answered, ruleOf, typesOf, tallest, makeSubtree}
 
 -- ---- reading a record
 
-module _ (c : Context) (slots : Slots «Type») (s : List ℕ) where
-  pub added-unfit : fragmentPayload s ≡ none → addRecord (makeType c) slots s ≡ refused badTree
+module _ (c : Context) (slots : Slots Subtree) (s : List ℕ) where
+  pub added-unfit : fragmentPayload s ≡ none → addRecord (makeSubtree c) slots s ≡ refused badTree
   unfolding addRecord
   added-unfit e = rw e
 
   pub added-untaken : (p : Payload) → fragmentPayload s ≡ some p → takeAll (childrenOf p) slots ≡ none
-      → addRecord (makeType c) slots s ≡ refused badTree
+      → addRecord (makeSubtree c) slots s ≡ refused badTree
   unfolding addRecord
   added-untaken p e t = rw (e, t)
 
-  pub added : (p : Payload) (x : Taken «Type») (r : TypeResult) → fragmentPayload s ≡ some p → takeAll (childrenOf p) slots ≡ some x
-      → ruleOf (kindOf s) c (kOf p) (x .those) ≡ answered r
-      → addRecord (makeType c) slots s ≡ (answered r >>= λ t. done (x .left ++ (some t ∷ [])))
+  -- a record of this type over these children has its own slot, unless it is too tall
+  abbrev pub ownSlot : «Type» → Taken Subtree → Answer (Slots Subtree)
+  ownSlot t x =
+      ifLow (suc (tallest (x .those))) (record { ty = t; height = suc (tallest (x .those)) }) >>= λ y. done (x .left ++ (some y ∷ []))
+
+  pub added : (p : Payload) (x : Taken Subtree) (r : TypeResult) → fragmentPayload s ≡ some p → takeAll (childrenOf p) slots ≡ some x
+      → ruleOf (kindOf s) c (kOf p) (typesOf (x .those)) ≡ answered r → addRecord (makeSubtree c) slots s ≡ (answered r >>= λ t. ownSlot t x)
   unfolding addRecord
-  added p x r e t f = rw (e, t, f)
+  added p x (Ok t) e t′ f = rw (e, t′, f)
+  added p x IllTyped e t′ f = rw (e, t′, f)
 
 -- ---- reading records one after the other
 

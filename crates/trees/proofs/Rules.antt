@@ -4,7 +4,7 @@ use Prim.Native.Nat.{ℕ}
 use mathlib.Core.Bool.{Bool, true, false, cond}
 use mathlib.Core.List.{List, [], _∷_, map}
 use mathlib.Core.Option.{Option, none, some}
-use mathlib.Core.Path.{_≡_, refl, ap, _∙_}
+use mathlib.Core.Path.{_≡_, refl, sym, ap, _∙_}
 use lib.Dec.{eqb}
 use Rattle.records.specs.Payloads.{Payload, numberOf, kOf, keysOf}
 use Rattle.types.specs.declared.«Type».{«Type»}
@@ -14,10 +14,9 @@ use Rattle.types.specs.TypeRules as rule
 use Rattle.contexts.specs.declared.Context.{Context}
 use Rattle.trees.specs.Fragment.{Fragment, Fragments, Thresh}
 use Rattle.trees.specs.Typing.{_>>=_, allTyped, andAll, typeOf, typesOf}
-use Rattle.trees.specs.Reading.{mapAnswer}
+use Rattle.trees.specs.Reading.{Answer, refused, badTree}
 use Rattle.trees.specs.Tree.{Line, _is_, find, Maker, plain, withNumber, one, two, three, fragments, ofChildren, ofKeys, makers}
 use Rattle.trees.specs.TreeCheck.{Typed}
-use Rattle.trees.specs.TreeCheck as check
 use Rattle.trees.specs.Rules.{Rule, answered, ofNone, ofOne, ofOneIn, ofTwo, ofThree, ofAll, always, rules}
 use Rattle.trees.proofs.Slots.{All, Any, both, here, there, IfSome}
 
@@ -28,10 +27,15 @@ module _ (c : Context) where
   abbrev pub Ill : Fragment → Type 0
   Ill f = typeOf c f ≡ IllTyped
 
+  -- the type of a record's own fragment, if there is one
+  abbrev pub typeMade : Option Fragment → Answer «Type»
+  typeMade none = refused badTree
+  typeMade (some f) = answered (typeOf c f)
+
   -- what a maker makes of well-typed children has the type that the rule gives; what it makes of an ill-typed child is ill-typed
   pub record Fits (maker : Maker) (rule : Rule) : Type 0 where
     pub same : (p : Payload) (xs : List Typed) → All Good xs
-        → rule c (kOf p) (map (λ x. x .type) xs) ≡ mapAnswer (λ x. x .type) (check.made c (maker p (map (λ x. x .tree) xs)))
+        → rule c (kOf p) (map (λ x. x .type) xs) ≡ typeMade (maker p (map (λ x. x .tree) xs))
     pub ill : (p : Payload) (xs : List Fragment) → Any Ill xs → IfSome Ill (maker p xs)
 
   abbrev pub FitsIfFound : Option Maker → Option Rule → Type 0
@@ -58,13 +62,9 @@ module _ (c : Context) where
 
   -- ---- each form of a record
 
-  same-answer : (f : Fragment) (r : TypeResult) → answered r ≡ mapAnswer (λ x. x .type) (check.typed f r)
-  same-answer f (Ok t) = refl
-  same-answer f IllTyped = refl
-
   -- what is made has the type r, so the rule that answers r is the same
-  answer : (f : Fragment) (r : TypeResult) → typeOf c f ≡ r → answered r ≡ mapAnswer (λ x. x .type) (check.made c (some f))
-  answer f r e = rw e (same-answer f r)
+  answer : (f : Fragment) (r : TypeResult) → typeOf c f ≡ r → answered r ≡ typeMade (some f)
+  answer f r e = ap answered (sym e)
 
   -- an ill-typed second child
   second-ill : (r : TypeResult) → (r >>= λ s. IllTyped) ≡ IllTyped
@@ -77,7 +77,7 @@ module _ (c : Context) where
   leaf maker f r is-some is-none h = record { same = same; ill = ill }
     where
       same : (p : Payload) (xs : List Typed) → All Good xs
-          → ofNone r c (kOf p) (map (λ x. x .type) xs) ≡ mapAnswer (λ x. x .type) (check.made c (maker p (map (λ x. x .tree) xs)))
+          → ofNone r c (kOf p) (map (λ x. x .type) xs) ≡ typeMade (maker p (map (λ x. x .tree) xs))
       same p [] g = rw (is-some p) (answer (f p) (r c) (h p))
       same p (x ∷ xs) g = rw (is-none p (x .tree) (map (λ x. x .tree) xs))
 
@@ -100,7 +100,7 @@ module _ (c : Context) where
   one-fits f r h = record { same = same; ill = ill }
     where
       same : (p : Payload) (xs : List Typed) → All Good xs
-          → ofOne r c (kOf p) (map (λ x. x .type) xs) ≡ mapAnswer (λ x. x .type) (check.made c (one f p (map (λ x. x .tree) xs)))
+          → ofOne r c (kOf p) (map (λ x. x .type) xs) ≡ typeMade (one f p (map (λ x. x .tree) xs))
       same p [] g = refl
       same p (x ∷ []) (both e g) = answer (f (x .tree)) (r (x .type)) (h (x .tree) ∙ rw e)
       same p (x ∷ y ∷ xs) g = refl
@@ -118,7 +118,7 @@ module _ (c : Context) where
   two-fits f r h = record { same = same; ill = ill }
     where
       same : (p : Payload) (xs : List Typed) → All Good xs
-          → ofTwo r c (kOf p) (map (λ x. x .type) xs) ≡ mapAnswer (λ x. x .type) (check.made c (two f p (map (λ x. x .tree) xs)))
+          → ofTwo r c (kOf p) (map (λ x. x .type) xs) ≡ typeMade (two f p (map (λ x. x .tree) xs))
       same p [] g = refl
       same p (x ∷ []) g = refl
       same p (x ∷ y ∷ []) (both e (both e′ g)) = answer (f (x .tree) (y .tree)) (r (x .type) (y .type)) (h (x .tree) (y .tree) ∙ rw (e, e′))
@@ -136,7 +136,7 @@ module _ (c : Context) where
   three-fits f r h = record { same = same; ill = ill }
     where
       same : (p : Payload) (xs : List Typed) → All Good xs
-          → ofThree r c (kOf p) (map (λ x. x .type) xs) ≡ mapAnswer (λ x. x .type) (check.made c (three f p (map (λ x. x .tree) xs)))
+          → ofThree r c (kOf p) (map (λ x. x .type) xs) ≡ typeMade (three f p (map (λ x. x .tree) xs))
       same p [] g = refl
       same p (x ∷ []) g = refl
       same p (x ∷ y ∷ []) g = refl
@@ -178,7 +178,7 @@ module _ (c : Context) where
     where
       same : (p : Payload) (xs : List Typed) → All Good xs
           → ofAll rule.threshold c (kOf p) (map (λ x. x .type) xs)
-          ≡ mapAnswer (λ x. x .type) (check.made c (ofChildren Thresh p (map (λ x. x .tree) xs)))
+          ≡ typeMade (ofChildren Thresh p (map (λ x. x .tree) xs))
       same p xs g =
           answer (Thresh (kOf p) (fragments (map (λ x. x .tree) xs))) (rule.threshold (kOf p) (map (λ x. x .type) xs))
           (thresh (kOf p) (fragments (map (λ x. x .tree) xs)) ∙ rw (types-good xs g))

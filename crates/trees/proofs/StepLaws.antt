@@ -1,10 +1,11 @@
 -- Reading one record in work memory, from what the functions that it calls tell. Assumes nothing.
-use Prim.Native.Nat.{ℕ, _+_}
-use mathlib.Core.Bool.{true, false}
-use mathlib.Core.List.{List, [], _∷_, _++_}
+use Prim.Native.Nat.{ℕ, zero, suc, _+_}
+use mathlib.Core.Bool.{Bool, true, false, cond}
+use mathlib.Core.List.{List, [], _∷_, _++_, map}
 use mathlib.Core.Option.{Option, none, some}
 use mathlib.Core.Path.{_≡_, refl, sym, ap, subst, _∙_}
 use native.Mathlib.Omega.{arith}
+use borrow.Author.Tests.{le-leb, lt-leb}
 use lib.ListN.{length, take}
 use Rattle.records.specs.declared.Parts.{Parts}
 use Rattle.records.specs.Payloads.{kOf, childrenOf}
@@ -13,17 +14,20 @@ use Rattle.types.specs.declared.«Type».{«Type»}
 use Rattle.types.specs.declared.TypeResult.{TypeResult}
 use Rattle.types.specs.declared.TypeResult.the-variants.{Ok, IllTyped}
 use Rattle.contexts.specs.declared.Context.{Context}
+use Rattle.trees.specs.declared.Subtree.{Subtree}
 use Rattle.trees.specs.declared.Children.{Children}
 use Rattle.trees.specs.declared.Step.{Step}
 use Rattle.trees.specs.declared.Step.the-variants as Step
-use Rattle.trees.specs.Reading.{done, _>>=_, Taken, takeAll, addRecord}
-use Rattle.trees.specs.Rules.{answered, ruleOf, makeType}
-use Rattle.trees.specs.WorkMemory.{slotsIn, freeIn, childrenTaken, Stepped}
+use Rattle.trees.specs.Height.{maxHeight}
+use Rattle.trees.specs.Reading.{Answer, refused, done, _>>=_, treeTooTall, Slots, Taken, takeAll, addRecord}
+use Rattle.trees.specs.Rules.{answered, ruleOf, typesOf, tallest, makeSubtree}
+use Rattle.trees.specs.WorkMemory.{slotsIn, freeIn, childrenTaken, Placed, placed, tooTall, Stepped}
 use Rattle.records.specs.Shapes.{arity}
 use Rattle.trees.proofs.Slots.{IfSome}
+use Rattle.trees.proofs.Subtrees.{take-types}
 use Rattle.trees.proofs.Counting.{free-more, free-taken}
 use Rattle.records.proofs.Arities.{Found, own-children, same-children}
-use Rattle.trees.proofs.RecordLaws.{added-unfit, added-untaken, added}
+use Rattle.trees.proofs.RecordLaws.{added-unfit, added-untaken, ownSlot, added}
 
 -- a record whose children have been looked for
 pub record Took (s work₀ work : List ℕ) (read : ℕ) (parts : Parts) (kind n : ℕ) (r : Children) : Type 0 where
@@ -47,41 +51,63 @@ module _ (c : Context) {s work₀ work : List ℕ} {read : ℕ} {parts : Parts} 
         same = x .same;
       }
 
-  taken-is : r .taken ≡ true
-      → takeAll (childrenOf (x .found .payload)) (slotsIn work₀ read) ≡ some (record { those = take n (r .types); left = slotsIn work read })
+  -- the children, once all are taken
+  abbrev those : Taken Subtree
+  those = record { those = take n (r .subtrees); left = slotsIn work read }
+
+  taken-is : r .taken ≡ true → takeAll (childrenOf (x .found .payload)) (slotsIn work₀ read) ≡ some those
   taken-is t = all-taken ∙ rw t
 
-  -- all children are taken, and the rule of the kind answers
-  ruled : (res : TypeResult) → r .taken ≡ true → ruleOf kind c (parts .k) (take (arity kind (parts .count)) (r .types)) ≡ answered res
-      → addRecord (makeType c) (slotsIn work₀ read) s ≡ (answered res >>= λ t. done (slotsIn work read ++ (some t ∷ [])))
-  ruled res t h =
+  -- the rule of the kind answers, from the types of the children in their sixteen places
+  abbrev pub Ruled : List «Type» → TypeResult → Type 0
+  Ruled types res = ruleOf kind c (parts .k) (take (arity kind (parts .count)) types) ≡ answered res
+
+  ruled : {types : List «Type»} (res : TypeResult) → r .taken ≡ true → types ≡ typesOf (r .subtrees) → Ruled types res
+      → addRecord (makeSubtree c) (slotsIn work₀ read) s ≡ (answered res >>= λ t. ownSlot c (slotsIn work₀ read) s t those)
+  ruled {types} res t are h =
       let own-k : parts .k ≡ kOf (x .found .payload) = ap (λ (y : Parts). y .k) (x .found .parts-are) in
-      added c (slotsIn work₀ read) s (x .found .payload) (record { those = take n (r .types); left = slotsIn work read }) res (x .found .fits)
-      (taken-is t) (
-      ap (λ (m : ℕ). ruleOf m c (kOf (x .found .payload)) (take n (r .types))) (sym (x .found .kind-is))
-      ∙ ap (λ (m : ℕ). ruleOf kind c m (take n (r .types))) (sym own-k)
-      ∙ ap (λ (m : ℕ). ruleOf kind c (parts .k) (take m (r .types))) (x .found .n-is)
+      added c (slotsIn work₀ read) s (x .found .payload) those res (x .found .fits) (taken-is t) (
+      ap (λ (m : ℕ). ruleOf m c (kOf (x .found .payload)) (typesOf (take n (r .subtrees)))) (sym (x .found .kind-is))
+      ∙ ap (λ (m : ℕ). ruleOf kind c m (typesOf (take n (r .subtrees)))) (sym own-k)
+      ∙ ap (λ (ts : List «Type»). ruleOf kind c (parts .k) ts) (sym (take-types n (r .subtrees)) ∙ ap (take n) (sym are))
+      ∙ ap (λ (m : ℕ). ruleOf kind c (parts .k) (take m types)) (x .found .n-is)
       ∙ h
       )
 
-  pub stepped-ill : {res : TypeResult} → r .taken ≡ true → ruleOf kind c (parts .k) (take (arity kind (parts .count)) (r .types)) ≡ answered res
-      → res ≡ IllTyped → Stepped c s work₀ work read Step.IllTyped
-  stepped-ill t h told = record { says = ruled IllTyped t (h ∙ ap answered told); free = tt; same = x .same }
+  pub stepped-ill : {types : List «Type»} {res : TypeResult} → r .taken ≡ true → types ≡ typesOf (r .subtrees) → Ruled types res → res ≡ IllTyped
+      → Stepped c s work₀ work read Step.IllTyped
+  stepped-ill t are h told = record { says = ruled IllTyped t are (h ∙ ap answered told); free = tt; same = x .same }
 
-  own-free : (t : «Type») → r .taken ≡ true → freeIn (slotsIn work read ++ (some t ∷ [])) + n ≡ freeIn (slotsIn work₀ read) + 1
-  own-free t h =
+  own-free : (y : Subtree) → r .taken ≡ true → freeIn (slotsIn work read ++ (some y ∷ [])) + n ≡ freeIn (slotsIn work₀ read) + 1
+  own-free y h =
       let cs = childrenOf (x .found .payload) in
       let all : freeIn (slotsIn work read) + length cs ≡ freeIn (slotsIn work₀ read) =
-      subst (λ (o : Option (Taken «Type»)). IfSome (λ y. freeIn (y .left) + length cs ≡ freeIn (slotsIn work₀ read)) o) (taken-is h)
+      subst (λ (o : Option (Taken Subtree)). IfSome (λ y. freeIn (y .left) + length cs ≡ freeIn (slotsIn work₀ read)) o) (taken-is h)
       (free-taken cs (slotsIn work₀ read)) in
-      omega (arith, free-more (slotsIn work read) t, own-children (x .found))
+      omega (arith, free-more (slotsIn work read) y, own-children (x .found))
 
-  pub stepped-next : {res : TypeResult} {t : «Type»} {work′ : List ℕ} → r .taken ≡ true
-      → ruleOf kind c (parts .k) (take (arity kind (parts .count)) (r .types)) ≡ answered res → res ≡ Ok t
-      → slotsIn work′ (read + 1) ≡ slotsIn work read ++ (some t ∷ []) → length work′ ≡ length work → Stepped c s work₀ work′ read (Step.Next n)
-  stepped-next {res} {t} h rule told more same =
+  -- a well-typed record has its slot, or is too tall
+  pub stepped-placed : {types : List «Type»} {res : TypeResult} {t : «Type»} {work′ : List ℕ} {step : Step} → r .taken ≡ true
+      → types ≡ typesOf (r .subtrees) → Ruled types res → res ≡ Ok t → Placed work work′ read t (take n (r .subtrees)) n step
+      → Stepped c s work₀ work′ read step
+  stepped-placed {res} {t} h are rule told (placed l same more) =
       record {
-        says = ruled (Ok t) h (rule ∙ ap answered told) ∙ ap done (sym more);
-        free = rw more (own-free t h);
+        says =
+            ruled (Ok t) h are (rule ∙ ap answered told)
+            ∙ ap (λ (b : Bool). low-is b) (le-leb (suc (tallest (take n (r .subtrees)))) maxHeight l) ∙ ap done (sym more);
+        free = rw more (own-free _ h);
+        same = same ∙ x .same;
+      }
+    where
+      low-is : Bool → Answer (Slots Subtree)
+      low-is b =
+          cond b (done (record { ty = t; height = suc (tallest (take n (r .subtrees))) })) (refused treeTooTall)
+          >>= λ y. done (slotsIn work read ++ (some y ∷ []))
+  stepped-placed {res} {t} h are rule told (tooTall l same) =
+      record {
+        says =
+            ruled (Ok t) h are (rule ∙ ap answered told)
+            ∙ rw (lt-leb (suc (tallest (take n (r .subtrees)))) maxHeight l);
+        free = tt;
         same = same ∙ x .same;
       }

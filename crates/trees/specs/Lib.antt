@@ -1,6 +1,7 @@
 -- What a reader of this crate must believe, in reading order.
 pub mod Fragment
 pub mod Typing
+pub mod Height
 pub mod Reading
 pub mod Tree
 pub mod TreeCheck

@@ -1,6 +1,6 @@
 -- When a byte string writes a tree: document 01, "Records" (children are smaller record numbers, each taken once, the last record is the
 -- root) and the tree check's order in "Numbers the console shows". What a record is made into is a parameter: Tree.antt makes fragments of
--- records, TreeCheck.antt fragments with their types, Rules.antt types alone.
+-- records, TreeCheck.antt fragments with their types, Rules.antt types and heights alone.
 use Prim.Native.Nat.{ℕ, zero, suc}
 use mathlib.Core.List.{List, [], _∷_, _++_}
 use mathlib.Core.Option.{Option, none, some}
@@ -17,6 +17,10 @@ illTyped = 15
 
 abbrev pub treeTooLarge : ℕ
 treeTooLarge = 16
+
+-- document 02's, R-8
+abbrev pub treeTooTall : ℕ
+treeTooTall = 19
 
 -- the records that a tree may have
 abbrev pub maxRecords : ℕ

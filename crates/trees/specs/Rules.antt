@@ -1,7 +1,7 @@
--- The type of a record's fragment from the types of its children alone: the rules of types/mod.rs under document 01's kinds.
--- The tree check computes these; proofs/Rules.antt shows that they give what TreeCheck.antt asks for.
-use Prim.Native.Nat.{ℕ}
-use mathlib.Core.List.{List, [], _∷_}
+-- The type of a record's fragment from the types of its children alone: the rules of types/mod.rs under document 01's kinds; and its height from theirs.
+-- The tree check computes these; proofs/Rules.antt and proofs/Heights.antt show that they give what TreeCheck.antt asks for.
+use Prim.Native.Nat.{ℕ, suc, max}
+use mathlib.Core.List.{List, [], _∷_, map}
 use mathlib.Core.Option.{Option, none, some}
 use Rattle.records.specs.Payloads.{Payload, kOf}
 use Rattle.types.specs.declared.«Type».{«Type»}
@@ -10,8 +10,10 @@ use Rattle.types.specs.declared.TypeResult.the-variants.{Ok, IllTyped}
 use Rattle.types.specs.TypeRules as rule
 use Rattle.contexts.specs.declared.Context.{Context}
 use Rattle.trees.specs.Typing.{inSegwitv0, inTap}
-use Rattle.trees.specs.Reading.{Answer, refused, done, badTree, illTyped}
+use Rattle.trees.specs.declared.Subtree.{Subtree}
+use Rattle.trees.specs.Reading.{Answer, refused, done, _>>=_, badTree, illTyped}
 use Rattle.trees.specs.Tree.{Line, _is_, find}
+use Rattle.trees.specs.TreeCheck.{ifLow}
 
 -- by the context, a threshold's k and the types of the children
 abbrev pub Rule : Type 0
@@ -91,5 +93,17 @@ givenBy none c k ts = refused badTree
 abbrev pub ruleOf : ℕ → Rule
 ruleOf kind = givenBy (find kind rules)
 
-abbrev pub makeType : Context → ℕ → Payload → List «Type» → Answer «Type»
-makeType c kind payload ts = ruleOf kind c (kOf payload) ts
+-- ---- types and heights
+
+abbrev pub typesOf : List Subtree → List «Type»
+typesOf xs = map (λ x. x .ty) xs
+
+unfoldable pub tallest : List Subtree → ℕ
+tallest [] = 0
+tallest (x ∷ xs) = max (x .height) (tallest xs)
+
+-- a record's type and its height, from those of its children
+abbrev pub makeSubtree : Context → ℕ → Payload → List Subtree → Answer Subtree
+makeSubtree c kind payload xs = do
+  t ← ruleOf kind c (kOf payload) (typesOf xs)
+  ifLow (suc (tallest xs)) (record { ty = t; height = suc (tallest xs) })

@@ -1,5 +1,5 @@
 -- Trees that the definitions give, computed by the checker: document 01, "Records", its whole case, and trees that are refused.
-use Prim.Native.Nat.{ℕ}
+use Prim.Native.Nat.{ℕ, zero, suc}
 use mathlib.Core.List.{List, [], _∷_, _++_}
 use mathlib.Core.Path.{_≡_, refl}
 use Rattle.words.specs.Bytes.{little, leAt}
@@ -12,9 +12,10 @@ use Rattle.types.specs.declared.TypeResult.the-variants.{Ok}
 use Rattle.types.specs.TypeRules as rule
 use Rattle.trees.specs.Fragment.{PkK, Check}
 use Rattle.trees.specs.Typing.{typeOf}
-use Rattle.trees.specs.Reading.{Answer, refused, done, badTree, illTyped, takeAll, rootOf, addRecord, readFrom, readTree}
+use Rattle.trees.specs.Height.{heightOf}
+use Rattle.trees.specs.Reading.{Answer, refused, done, badTree, illTyped, treeTooTall, takeAll, rootOf, addRecord, readFrom, readTree}
 use Rattle.trees.specs.Tree.{find, treeOf}
-use Rattle.trees.specs.TreeCheck.{typedTreeOf, checkOf}
+use Rattle.trees.specs.TreeCheck.{Typed, typedTreeOf, checkOf}
 
 -- PkK of key 7; Check over record 0; OrB, of record 0 twice; Multi, 1 of 1
 abbrev key : List ℕ
@@ -55,3 +56,28 @@ multi-in-tapscript = refl
 pub ill-typed-first : checkOf 1 (multi ++ (0 ∷ [])) 4096 ≡ refused illTyped
 unfolding little leAt u16s u32s lookUp shapeOf payloadOf takeAll rootOf addRecord readFrom readTree find typeOf typedTreeOf checkOf
 ill-typed-first = refl
+
+-- ---- how tall a tree may be
+
+-- n times ZeroNotEqual, over record 1 and the records after it
+unfoldable pub wraps : ℕ → List ℕ
+wraps zero = []
+wraps (suc n) = wraps n ++ (6 ∷ 0 ∷ 48 ∷ 0 ∷ suc n ∷ 0 ∷ [])
+
+-- the number that the console shows, 0 if a tree passes
+abbrev numberOf : Answer Typed → ℕ
+numberOf (refused n) = n
+numberOf (done x) = 0
+
+-- a tree that is 128 high passes, and one that is 129 high does not; ill-typed comes first
+pub height-128 : numberOf (checkOf 0 (key ++ check ++ wraps 126) 4096) ≡ 0
+unfolding wraps little leAt u16s u32s lookUp shapeOf payloadOf takeAll rootOf addRecord readFrom readTree find typeOf heightOf typedTreeOf checkOf
+height-128 = refl
+
+pub height-129 : numberOf (checkOf 0 (key ++ check ++ wraps 127) 4096) ≡ treeTooTall
+unfolding wraps little leAt u16s u32s lookUp shapeOf payloadOf takeAll rootOf addRecord readFrom readTree find typeOf heightOf typedTreeOf checkOf
+height-129 = refl
+
+pub ill-typed-and-tall : numberOf (checkOf 0 (key ++ check ++ wraps 126 ++ (6 ∷ 0 ∷ 44 ∷ 0 ∷ 127 ∷ 0 ∷ [])) 4096) ≡ illTyped
+unfolding wraps little leAt u16s u32s lookUp shapeOf payloadOf takeAll rootOf addRecord readFrom readTree find typeOf heightOf typedTreeOf checkOf
+ill-typed-and-tall = refl

@@ -1,20 +1,21 @@
 // Fragment trees: when a byte string writes one, and the tree check, which gives its type.
 //
-// specs/Fragment.antt has the trees, specs/Typing.antt the type of a tree by the rules of the crate `types`, specs/Reading.antt and
-// specs/Tree.antt when bytes write a tree, specs/TreeCheck.antt the check. The contract of `check` cites specs/Checked.antt and
+// specs/Fragment.antt has the trees, specs/Typing.antt the type of a tree by the rules of the crate `types`, specs/Height.antt how tall it is,
+// specs/Reading.antt and specs/Tree.antt when bytes write a tree, specs/TreeCheck.antt the check. The contract of `check` cites specs/Checked.antt and
 // specs/TreeCheck.antt; those of the inner functions cite specs/Rules.antt and specs/WorkMemory.antt.
 ghost use mathlib.Core.List.{[], _∷_, _++_};
 ghost use mathlib.Core.Option.{none, some};
 ghost use mathlib.Core.Path.{_≡_};
-ghost use Prim.Native.Nat.{ℕ, _+_, _-_, _<_, _≤_};
+ghost use Prim.Native.Nat.{ℕ, max, _+_, _-_, _<_, _≤_};
 ghost use lib.ListN.{length, getD, set, take};
 ghost use Rattle.types.specs.TypeRules.{multi, multiA};
 ghost use Rattle.trees.specs.Typing.{inSegwitv0, inTap};
+ghost use Rattle.trees.specs.Height.{maxHeight};
 ghost use Rattle.trees.specs.Reading.{done, orRefuse, badTree, maxRecords, takeAll, readTree};
-ghost use Rattle.trees.specs.Rules.{answered, ruleOf, makeType};
+ghost use Rattle.trees.specs.Rules.{answered, ruleOf, typesOf, tallest, makeSubtree};
 ghost use Rattle.trees.specs.TreeCheck.{checkOf, checkIn};
 ghost use Rattle.trees.specs.Checked.{answerOf, typeOnly};
-ghost use Rattle.trees.specs.WorkMemory.{slotOf, slotsIn, slotAnswer, childrenTaken, Stepped};
+ghost use Rattle.trees.specs.WorkMemory.{slotOf, slotsIn, slotAnswer, childrenTaken, typeIn, Placed, Stepped};
 ghost use Rattle.records.specs.Shapes.{arity};
 ghost use Rattle.words.specs.Memory.{zeroed};
 use records::RecordLength;
@@ -30,19 +31,26 @@ pub enum Checked {
     BadTree,
     IllTyped,
     TreeTooLarge,
+    TreeTooTall,
     Typed(Type),
 }
 
-// What a record's slot holds: the type of a tree that no later record has taken, or nothing.
+// The type of a tree, and how tall it is.
+pub struct Subtree {
+    pub ty: Type,
+    pub height: u64,
+}
+
+// What a record's slot holds: the tree that no later record has taken, or nothing.
 pub enum Slot {
-    Free(Type),
+    Free(Subtree),
     Taken,
 }
 
-// The types of a record's children, if all could be taken.
+// A record's children, if all could be taken.
 pub struct Children {
     pub taken: bool,
-    pub types: [Type; 16],
+    pub subtrees: [Subtree; 16],
 }
 
 // How reading one record ends: with the number of children that it took, or with a refusal.
@@ -50,13 +58,17 @@ pub enum Step {
     Next(usize),
     BadTree,
     IllTyped,
+    TooTall,
 }
 
 // The most records that a tree may have; work memory has a word for each.
 pub const MAX_RECORDS: usize = 4096;
 
-// As many numbers pack a type.
-const TYPES: u64 = 960;
+// How tall a tree may be, a leaf being 1.
+pub const MAX_HEIGHT: u64 = 128;
+
+// A slot's height counts from here, above its type.
+const HEIGHTS: u64 = 0x400;
 
 // The type of a record of kind 32 to 41.
 fn leaf_type(kind: u16) -> Type
@@ -129,14 +141,15 @@ fn multi_a_type(context: Context) -> TypeResult
 fn slot_of(word: u64) -> Slot
     ensures { λ s. ⌜ s ≡ slotAnswer (slotOf word) ⌝ }
 {
-    if word == 0 {
+    let packed = word % HEIGHTS;
+    if packed == 0 {
         return Slot::Taken;
     }
-    if TYPES < word {
-        return Slot::Taken;
-    }
-    match Type::unpack((word - 1) as u32) {
-        Unpacked::Is(t) => Slot::Free(t),
+    match Type::unpack((packed - 1) as u32) {
+        Unpacked::Is(ty) => Slot::Free(Subtree {
+            ty,
+            height: word / HEIGHTS,
+        }),
         Unpacked::NotAType => Slot::Taken,
     }
 }
@@ -191,30 +204,92 @@ fn take_children(work: &mut [u64], read: usize, children: [u16; 16], n: usize) -
     ensures { λ r. ⌜ takeAll (take n children) (slotsIn (now (work .entry)) read) ≡ childrenTaken r n (slotsIn (now (work .exit)) read) ⌝ }
     ensures { λ _. ⌜ length (now (work .exit)) ≡ length (now (work .entry)) ⌝ }
 {
-    let none = Type::of_false();
-    let mut types = [none; 16];
+    let none = Subtree {
+        ty: Type::of_false(),
+        height: 0,
+    };
+    let mut subtrees = [none; 16];
     let mut i = 0;
     while i < n {
         let child = children[i] as usize;
-        let Slot::Free(t) = take_child(work, read, child) else {
+        let Slot::Free(x) = take_child(work, read, child) else {
             return Children {
                 taken: false,
-                types,
+                subtrees,
             };
         };
-        types[i] = t;
+        subtrees[i] = x;
         i += 1;
     }
-    Children { taken: true, types }
+    Children {
+        taken: true,
+        subtrees,
+    }
 }
 
-// Adds a slot that holds a type behind those of the first `read` records.
-fn add_slot(work: &mut [u64], read: usize, t: Type)
-    requires { ⌜ read < length (now work) ⌝ }
-    ensures { λ _. ⌜ slotsIn (now (work .exit)) (read + 1) ≡ slotsIn (now (work .entry)) read ++ (some t ∷ []) ⌝ }
+// The types of some trees.
+fn types_of(subtrees: [Subtree; 16]) -> [Type; 16]
+    ensures { λ r. ⌜ r ≡ typesOf subtrees ⌝ }
+{
+    let none = Type::of_false();
+    let mut types = [none; 16];
+    let mut i = 0;
+    while i < 16 {
+        let x = subtrees[i];
+        let ty = x.ty;
+        types[i] = ty;
+        i += 1;
+    }
+    types
+}
+
+// The greater of two numbers.
+fn greater(a: u64, b: u64) -> u64
+    ensures { λ r. ⌜ r ≡ max a b ⌝ }
+{
+    if a < b { b } else { a }
+}
+
+// How tall the tallest of the first n trees is, and 0 for none.
+fn tallest(subtrees: [Subtree; 16], n: usize) -> u64
+    requires { ⌜ n ≤ 16 ⌝ }
+    ensures { λ r. ⌜ r ≡ tallest (take n subtrees) ⌝ }
+{
+    let mut tall = 0;
+    let mut i = 0;
+    while i < n {
+        let x = subtrees[i];
+        tall = greater(tall, x.height);
+        i += 1;
+    }
+    tall
+}
+
+// Adds a slot that holds a tree behind those of the first `read` records.
+fn add_slot(work: &mut [u64], read: usize, x: Subtree)
+    requires { ⌜ (read < length (now work)) × (x .height ≤ maxHeight) ⌝ }
+    ensures { λ _. ⌜ slotsIn (now (work .exit)) (read + 1) ≡ slotsIn (now (work .entry)) read ++ (some x ∷ []) ⌝ }
     ensures { λ _. ⌜ length (now (work .exit)) ≡ length (now (work .entry)) ⌝ }
 {
-    work[read] = (t.pack() as u64) + 1;
+    let ty = x.ty;
+    work[read] = (ty.pack() as u64) + 1 + x.height * HEIGHTS;
+}
+
+// Adds the slot of a well-typed record with n children, unless it is too tall.
+fn add_record(work: &mut [u64], read: usize, ty: Type, children: [Subtree; 16], n: usize) -> Step
+    requires { ⌜ (read < length (now work)) × (n ≤ 16) ⌝ }
+    ensures { λ r. ⌜ Placed (now (work .entry)) (now (work .exit)) read ty (take n children) n r ⌝ }
+{
+    let below = tallest(children, n);
+    if below >= MAX_HEIGHT {
+        return Step::TooTall;
+    }
+    let x = Subtree {
+        ty,
+        height: below + 1,
+    };
+    add_slot(work, read, x);
+    Step::Next(n)
 }
 
 // Reads a whole record when `read` records are read: takes its children and adds its own slot.
@@ -233,11 +308,10 @@ fn check_record(context: Context, bytes: &[u8], work: &mut [u64], read: usize) -
         let taken = children.taken;
         if taken {
             let k = parts.k as usize;
-            let types = children.types;
-            match rule_of(context, kind, k, count, types) {
-                TypeResult::Ok(t) => {
-                    add_slot(work, read, t);
-                    return Step::Next(n);
+            let subtrees = children.subtrees;
+            match rule_of(context, kind, k, count, types_of(subtrees)) {
+                TypeResult::Ok(ty) => {
+                    return add_record(work, read, ty, subtrees, n);
                 }
                 TypeResult::IllTyped => {
                     return Step::IllTyped;
@@ -251,11 +325,14 @@ fn check_record(context: Context, bytes: &[u8], work: &mut [u64], read: usize) -
 // The type of the root where one of `read` slots is free, which is the last.
 fn root_type(work: &mut [u64], read: usize) -> Checked
     requires { ⌜ (1 ≤ read) × (read ≤ length (now work)) ⌝ }
-    ensures { λ r. ⌜ answerOf r ≡ orRefuse badTree (getD (slotsIn (now (work .entry)) read) (read - 1) none) ⌝ }
+    ensures { λ r. ⌜ answerOf r ≡ typeIn (orRefuse badTree (getD (slotsIn (now (work .entry)) read) (read - 1) none)) ⌝ }
     ensures { λ _. ⌜ now (work .exit) ≡ now (work .entry) ⌝ }
 {
     match slot_of(work[read - 1]) {
-        Slot::Free(t) => Checked::Typed(t),
+        Slot::Free(x) => {
+            let ty = x.ty;
+            Checked::Typed(ty)
+        }
         Slot::Taken => Checked::BadTree,
     }
 }
@@ -263,7 +340,7 @@ fn root_type(work: &mut [u64], read: usize) -> Checked
 // Reads all records of a tree.
 fn check_records(context: Context, tree: &[u8], work: &mut [u64]) -> Checked
     requires { ⌜ length (now work) ≡ maxRecords ⌝ }
-    ensures { λ r. ⌜ answerOf r ≡ readTree (makeType context) (now (tree .entry)) ⌝ }
+    ensures { λ r. ⌜ answerOf r ≡ typeIn (readTree (makeSubtree context) (now (tree .entry))) ⌝ }
     ensures { λ _. ⌜ length (now (work .exit)) ≡ length (now (work .entry)) ⌝ }
 {
     let mut at = 0;
@@ -286,6 +363,9 @@ fn check_records(context: Context, tree: &[u8], work: &mut [u64]) -> Checked
             }
             Step::IllTyped => {
                 return Checked::IllTyped;
+            }
+            Step::TooTall => {
+                return Checked::TreeTooTall;
             }
         }
         at = end;

@@ -18,6 +18,9 @@ enum-told-4 c = search needs
 enum-told-5 : tie.Need-enum-told-5
 enum-told-5 c = search needs
 
+enum-told-6 : tie.Need-enum-told-6
+enum-told-6 c = search needs
+
 enum-known-r : tie.Need-enum-known-r
 enum-known-r c = search needs
 
@@ -40,7 +43,10 @@ returns-5 : tie.Need-returns-5
 returns-5 c = search needs
 
 returns-6 : tie.Need-returns-6
-returns-6 c = simp (c .pack .ensures, c .before .before .r .given .1)
+returns-6 c = search needs
+
+returns-7 : tie.Need-returns-7
+returns-7 c = simp (c .pack .ensures, c .before .before .r .given .1)
 
 pub packed-type-spec : {M : Type 1} → statement M
 packed-type-spec =
@@ -51,6 +57,7 @@ packed-type-spec =
     enum-told-3
     enum-told-4
     enum-told-5
+    enum-told-6
     enum-known-r
     pack-requires
     returns
@@ -58,4 +65,5 @@ packed-type-spec =
     returns-3
     returns-4
     returns-5
-    returns-6)
+    returns-6
+    returns-7)

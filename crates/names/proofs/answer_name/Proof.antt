@@ -79,9 +79,14 @@ unfolding nameIn
 returns-18 c = rw (c .before .before .match .keys18)
 
 returns-19 : tie.Need-returns-19
-returns-19 c =
+unfolding nameIn
+returns-19 c = rw (c .before .before .match .keys19)
+
+returns-20 : tie.Need-returns-20
+returns-20 c =
     let rest = c .before .before .match .rest in
     ap (inPlaces 15) (sym (unnamed
+    (passed (rest .0 .0 .0 .0 .0 .0 .0 .0 .0 .0 .0 .0 .0 .0 .0 .0 .0 .0 .1)
     (passed (rest .0 .0 .0 .0 .0 .0 .0 .0 .0 .0 .0 .0 .0 .0 .0 .0 .0 .1)
     (passed (rest .0 .0 .0 .0 .0 .0 .0 .0 .0 .0 .0 .0 .0 .0 .0 .0 .1)
     (passed (rest .0 .0 .0 .0 .0 .0 .0 .0 .0 .0 .0 .0 .0 .0 .0 .1)
@@ -99,7 +104,7 @@ returns-19 c =
     (passed (rest .0 .0 .0 .1)
     (passed (rest .0 .0 .1)
     (passed (rest .0 .1)
-    (passed (rest .1) none))))))))))))))))))))
+    (passed (rest .1) none)))))))))))))))))))))
 
 pub answer-name-spec : {M : Type 1} → statement M
 answer-name-spec =
@@ -123,4 +128,5 @@ answer-name-spec =
     returns-16
     returns-17
     returns-18
-    returns-19)
+    returns-19
+    returns-20)

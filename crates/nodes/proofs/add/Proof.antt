@@ -13,7 +13,7 @@ returns : tie.Need-returns
 returns c = full (c .if1 .taken) refl
 
 words-of-requires : tie.Need-words-of-requires
-words-of-requires c κs = fresh-fits (c .before .before .before .pre .0 .few) (c .if1 .left) (c .before .before .before .pre .1)
+words-of-requires c κs = fresh-fits (c .before .before .before .pre .1)
 
 mul-put-words : tie.Need-mul-put-words
 mul-put-words c = search needs

@@ -1,8 +1,8 @@
 -- `trees::check_record` meets its contract: the children are taken, the rule of the kind answers, and the slot is added. Assumes nothing.
-use borrow.Author.Needs.{needs}
 use native.Mathlib.Omega.{arith}
 use Rattle.records.proofs.Arities.{Found, found, not-found, few-children, rule-needs}
-use Rattle.trees.proofs.StepLaws.{Took, stepped-unfit, stepped-untaken, stepped-ill, stepped-next}
+use Rattle.trees.proofs.StepLaws.{Took, stepped-unfit, stepped-untaken, stepped-ill, stepped-placed}
+use borrow.Author.Needs.{needs}
 use Rattle.trees.proofs.check_record.Statement.{statement}
 use Rattle.trees.proofs.check_record.Tie as tie
 
@@ -42,33 +42,33 @@ take-children-requires c κs = (omega arith, few-children (its-record (c .before
 cast-k : tie.Need-cast-k
 cast-k c = search needs
 
+types-of-requires : tie.Need-types-of-requires
+types-of-requires c κs = search needs
+
 rule-of-requires : tie.Need-rule-of-requires
-rule-of-requires c κs = rule-needs (its-record (c .before .before .before .before .before .before .before .before))
+rule-of-requires c κs = rule-needs (its-record (before-children (c .before .before .before .before .before .before)))
 
-enum-known-t : tie.Need-enum-known-t
-enum-known-t c = search needs
+enum-known-ty : tie.Need-enum-known-ty
+enum-known-ty c = search needs
 
-add-slot-requires : tie.Need-add-slot-requires
-add-slot-requires c κs =
-    let near = c .before .before .before .before .before .before .before .before .before .before in
-    let take-children = c .before .before .before .before .before .before .before .before .before .before .take-children in
-    let pre = near .before .before .before .before .before .before .before .before .before .pre in
-    omega (arith, take-children .ensures .1, pre)
+add-record-requires : tie.Need-add-record-requires
+add-record-requires c κs =
+    let there = c .before .before .before .before .before .before .before .before .before .before .before in
+    (omega (arith, there .take-children .ensures .1, start there .pre), few-children (its-record (before-children there)))
 
 same-length : tie.Need-same-length
 same-length c = search needs
 
 returns : tie.Need-returns
 returns c =
-    let near = c .before .before .before .before .before .before .before .before .before .before in
-    let args = near .before .before .before .before .before .before .before .before .before .before .before .before .args in
-    let there = near .before .before .before in
-    let if2 = c .before .before .before .before .before .before .before .before .before .before .if2 in
+    let there = c .before .before .before .before .before .before .before .before .before .before .before .before .before .before in
+    let if2 = c .before .before .before .before .before .before .before .before .before .before .before .if2 in
+    let types-of = c .before .before .before .before .before .before .before .before .types-of in
     let rule-of = c .before .before .before .before .before .before .before .rule-of in
-    let t = c .before .before .before .before .before .t in
-    let add-slot = c .before .before .add-slot in
-    stepped-next (args .context) (its-children there) (if2 .taken) (rule-of .ensures) (t .given .1) (add-slot .ensures .0)
-    (add-slot .ensures .1)
+    let ty = c .before .before .before .before .before .ty in
+    let add-record = c .before .before .add-record in
+    stepped-placed (start there .args .context) (its-children there) (if2 .taken) (types-of .ensures) (rule-of .ensures) (ty .given .1)
+    (add-record .ensures)
 
 enum-told : tie.Need-enum-told
 enum-told c = search needs
@@ -78,22 +78,19 @@ same-length-2 c = search needs
 
 returns-2 : tie.Need-returns-2
 returns-2 c =
-    let near = c .before .before .before .before .before .before .before .before .before .before in
-    let args = near .before .before .before .before .before .before .before .args in
-    let there = c .before .before .before .before .before .before .before .before in
-    let if2 = c .before .before .before .before .before .if2 in
+    let there = c .before .before .before .before .before .before .before .before .before in
+    let if2 = c .before .before .before .before .before .before .if2 in
+    let types-of = c .before .before .before .types-of in
     let rule-of = c .before .before .rule-of in
-    stepped-ill (args .context) (its-children there) (if2 .taken) (rule-of .ensures) (c .enum-told .given .1)
+    stepped-ill (start there .args .context) (its-children there) (if2 .taken) (types-of .ensures) (rule-of .ensures) (c .enum-told .given .1)
 
 same-length-3 : tie.Need-same-length-3
 same-length-3 c = search needs
 
 returns-3 : tie.Need-returns-3
 returns-3 c =
-    let near = c .before .before .before .before .before .before .before .before .before .before in
-    let args = near .before .before .args in
     let there = c .before .before .before in
-    stepped-untaken (args .context) (its-children there) (c .if2 .left)
+    stepped-untaken (start there .args .context) (its-children there) (c .if2 .left)
 
 returns-4 : tie.Need-returns-4
 returns-4 c =
@@ -110,9 +107,10 @@ check-record-spec =
     arity-requires
     take-children-requires
     cast-k
+    types-of-requires
     rule-of-requires
-    enum-known-t
-    add-slot-requires
+    enum-known-ty
+    add-record-requires
     same-length
     returns
     enum-told

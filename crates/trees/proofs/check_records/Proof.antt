@@ -6,7 +6,7 @@ use Prim.Native.Nat.{_-_}
 use lib.ListN.{length}
 use Rattle.records.proofs.Laws.{whole-length, broken-length}
 use Rattle.trees.proofs.LoopLaws.{Progress, Turn, progress-start, free-few, progress-large, progress-broken, end-within, end-later}
-use Rattle.trees.proofs.LoopLaws.{same-room, progress-bad, progress-ill, progress-free, progress-next}
+use Rattle.trees.proofs.LoopLaws.{same-room, progress-bad, progress-ill, progress-tall, progress-free, progress-next}
 use Rattle.trees.proofs.LoopLaws.{progress-unused, progress-root, some-read}
 use Rattle.trees.proofs.check_records.Statement.{statement}
 use Rattle.trees.proofs.check_records.Tie as tie
@@ -152,6 +152,27 @@ returns-4 c =
       same-room (turn there) (check-record .ensures) pre,
     )
 
+enum-told-4 : tie.Need-enum-told-4 Inv-loop μ-loop
+enum-told-4 c = search needs
+
+same-length-5 : tie.Need-same-length-5 Inv-loop μ-loop
+same-length-5 c =
+    let near = c .before .before .before .before .before .before .before .before .before .before in
+    let there = c .before .before .before .before .before .before .before in
+    let check-record = c .before .before .before .before .check-record in
+    let pre = near .before .before .before .before .before .before .pre in
+    same-room (turn there) (check-record .ensures) pre
+
+returns-5 : tie.Need-returns-5 Inv-loop μ-loop
+returns-5 c =
+    let near = c .before .before .before .before .before .before .before .before .before .before in
+    let there = c .before .before .before .before .before .before .before in
+    let check-record = c .before .before .before .before .check-record in
+    let pre = near .before .before .before .before .before .before .pre in (
+      progress-tall (turn there) (check-record .ensures) (c .enum-told4 .given .1),
+      same-room (turn there) (check-record .ensures) pre,
+    )
+
 add-read : tie.Need-add-read Inv-loop μ-loop
 add-read c =
     let near = c .before .before .before .before .before .before .before .before .before .before in
@@ -176,15 +197,15 @@ root-type-requires c κs =
     let loop = c .before .before .before .loop in
     (some-read (loop .inv) (c .before .if2 .taken), omega (arith, loop .inv .few, loop .inv .room))
 
-same-length-5 : tie.Need-same-length-5 Inv-loop μ-loop
-same-length-5 c =
+same-length-6 : tie.Need-same-length-6 Inv-loop μ-loop
+same-length-6 c =
     let root-type = c .before .before .root-type in
     let loop = c .before .before .before .before .before .before .loop in
     let pre = c .before .before .before .before .before .before .before .before .before .pre in
     ap length (root-type .ensures .1) ∙ loop .inv .room ∙ sym pre
 
-returns-5 : tie.Need-returns-5 Inv-loop μ-loop
-returns-5 c =
+returns-6 : tie.Need-returns-6 Inv-loop μ-loop
+returns-6 c =
     let root-type = c .before .before .root-type in
     let loop = c .before .before .before .before .before .before .loop in
     let loop-test = c .before .before .before .before .before .loop-test in
@@ -194,11 +215,11 @@ returns-5 c =
       ap length (root-type .ensures .1) ∙ loop .inv .room ∙ sym pre,
     )
 
-same-length-6 : tie.Need-same-length-6 Inv-loop μ-loop
-same-length-6 c = c .before .before .loop .inv .room ∙ sym (c .before .before .before .before .before .pre)
+same-length-7 : tie.Need-same-length-7 Inv-loop μ-loop
+same-length-7 c = c .before .before .loop .inv .room ∙ sym (c .before .before .before .before .before .pre)
 
-returns-6 : tie.Need-returns-6 Inv-loop μ-loop
-returns-6 c =
+returns-7 : tie.Need-returns-7 Inv-loop μ-loop
+returns-7 c =
     let loop = c .before .before .loop in
     let pre = c .before .before .before .before .before .pre in
     (progress-unused (loop .inv) (c .before .loop-test .left) (c .if2 .left), loop .inv .room ∙ sym pre)
@@ -231,11 +252,14 @@ check-records-spec =
     enum-told-3
     same-length-4
     returns-4
+    enum-told-4
+    same-length-5
+    returns-5
     add-read
     loop-less
     loop-again
     root-type-requires
-    same-length-5
-    returns-5
     same-length-6
-    returns-6)
+    returns-6
+    same-length-7
+    returns-7)

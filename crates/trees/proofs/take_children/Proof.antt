@@ -14,12 +14,12 @@ use Rattle.trees.proofs.take_children.Statement.{statement}
 use Rattle.trees.proofs.take_children.Tie as tie
 
 abbrev Inv-loop : tie.InvT-loop
-Inv-loop work₀ read n children types₀ i₀ work types i =
-    ToCome children n (takeAll (take n children) (slotsIn work₀ read)) types i (slotsIn work read)
-    × (i ≤ n) × (length types ≡ 16) × (length work ≡ length work₀)
+Inv-loop work₀ read n children subtrees₀ i₀ work subtrees i =
+    ToCome children n (takeAll (take n children) (slotsIn work₀ read)) subtrees i (slotsIn work read)
+    × (i ≤ n) × (length subtrees ≡ 16) × (length work ≡ length work₀) × (length children ≡ 16)
 
 abbrev μ-loop : tie.MeasureT-loop
-μ-loop work₀ read n children types₀ i₀ work types i = n - i
+μ-loop work₀ read n children subtrees₀ i₀ work subtrees i = n - i
 
 of-false-requires : tie.Need-of-false-requires Inv-loop μ-loop
 of-false-requires c κs = search needs
@@ -31,6 +31,7 @@ loop-holds c =
       omega arith,
       search needs,
       refl,
+      search needs,
     )
 
 mul-child : tie.Need-mul-child Inv-loop μ-loop
@@ -48,8 +49,8 @@ take-child-requires c κs =
     let pre = c .before .before .before .before .before .pre in
     omega (arith, loop .inv .3, pre .0)
 
-enum-known-t : tie.Need-enum-known-t Inv-loop μ-loop
-enum-known-t c = search needs
+enum-known-x : tie.Need-enum-known-x Inv-loop μ-loop
+enum-known-x c = search needs
 
 enum-told : tie.Need-enum-told Inv-loop μ-loop
 enum-told c = search needs
@@ -63,18 +64,18 @@ returns c =
     let loop = c .before .before .before .before .before .before .before .loop in
     let take-child = c .before .before .before .before .take-child in
     let loop-test = c .before .before .before .before .before .before .loop-test in
-    let len : length (args .t3) ≡ 16 = search needs in (
-      children-stop (args .t3) (args .n) _ (loop .types) (loop .i) (slotsIn (loop .work) (args .read)) (loop-test .taken) (omega arith)
+    let len : length (args .t3) ≡ 16 = loop .inv .4 in (
+      children-stop (args .t3) (args .n) _ (loop .subtrees) (loop .i) (slotsIn (loop .work) (args .read)) (loop-test .taken) (omega arith)
           (taken-slot (getD (slotsIn (loop .work) (args .read)) (getD (args .t3) (loop .i) 0) none) (take-child .ensures .0) (c .enum-told .given .1))
           (loop .inv .0),
       take-child .ensures .1 .1 ∙ loop .inv .3,
     )
 
-mul-types : tie.Need-mul-types Inv-loop μ-loop
-mul-types c = omega arith
+mul-subtrees : tie.Need-mul-subtrees Inv-loop μ-loop
+mul-subtrees c = omega arith
 
-array-set-from-types : tie.Need-array-set-from-types Inv-loop μ-loop
-array-set-from-types c = omega arith
+array-set-from-subtrees : tie.Need-array-set-from-subtrees Inv-loop μ-loop
+array-set-from-subtrees c = omega arith
 
 add-i : tie.Need-add-i Inv-loop μ-loop
 add-i c = omega arith
@@ -88,14 +89,15 @@ loop-again c =
     let loop = c .before .before .before .before .before .before .before .before .loop in
     let take-child = c .before .before .before .before .before .take-child in
     let loop-test = c .before .before .before .before .before .before .before .loop-test in
-    let len : length (args .t3) ≡ 16 = search needs in (
-      children-more (args .t3) (args .n) _ (loop .types) (loop .i) (slotsIn (loop .work) (args .read)) _ _ (loop-test .taken)
+    let len : length (args .t3) ≡ 16 = loop .inv .4 in (
+      children-more (args .t3) (args .n) _ (loop .subtrees) (loop .i) (slotsIn (loop .work) (args .read)) _ _ (loop-test .taken)
           (omega arith) (omega (arith, loop .inv .2))
-          (free-slot (getD (slotsIn (loop .work) (args .read)) (getD (args .t3) (loop .i) 0) none) (take-child .ensures .0) (c .before .t .given .1))
+          (free-slot (getD (slotsIn (loop .work) (args .read)) (getD (args .t3) (loop .i) 0) none) (take-child .ensures .0) (c .before .x .given .1))
           (take-child .ensures .1 .0) (loop .inv .0),
       omega arith,
-      length-set (loop .types) (loop .i) _ ∙ loop .inv .2,
+      length-set (loop .subtrees) (loop .i) _ ∙ loop .inv .2,
       take-child .ensures .1 .1 ∙ loop .inv .3,
+      len,
     )
 
 same-length-2 : tie.Need-same-length-2 Inv-loop μ-loop
@@ -105,7 +107,7 @@ returns-2 : tie.Need-returns-2 Inv-loop μ-loop
 returns-2 c =
     let args = c .before .before .before .before .args in
     let loop = c .before .loop in (
-      children-end (args .t3) (args .n) _ (loop .types) (loop .i) (slotsIn (loop .work) (args .read)) (omega (arith, loop .inv .1)) (loop .inv .0),
+      children-end (args .t3) (args .n) _ (loop .subtrees) (loop .i) (slotsIn (loop .work) (args .read)) (omega (arith, loop .inv .1)) (loop .inv .0),
       loop .inv .3,
     )
 
@@ -121,12 +123,12 @@ take-children-spec =
     array-read-child
     cast-child
     take-child-requires
-    enum-known-t
+    enum-known-x
     enum-told
     same-length
     returns
-    mul-types
-    array-set-from-types
+    mul-subtrees
+    array-set-from-subtrees
     add-i
     loop-less
     loop-again
