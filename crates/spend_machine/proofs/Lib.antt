@@ -1,0 +1,3 @@
+-- Why the theorems of specs/ hold.
+pub mod FixedOutcomes
+pub mod Laws

@@ -1,0 +1,6 @@
+-- What a reader of this crate must believe, in reading order.
+pub mod Entries
+pub mod Recorded
+pub mod Verdicts
+pub mod FixedOutcomes
+pub mod Laws
