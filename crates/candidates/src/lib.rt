@@ -11,6 +11,7 @@ ghost use Rattle.candidates.specs.Leaves.{sha256, hash256, ripemd160, ha
 ghost use Rattle.candidates.specs.Casts.{check, dupif, likely, unlikely, verify, nonzero, true′, swap, alt, zeronotequal};
 ghost use Rattle.candidates.specs.Casts.{castBy, castOf};
 ghost use Rattle.candidates.specs.Pairs.{andB, andV, orB, orD, orC, orI, pairBy, pairOf, andOr};
+use contexts::Context;
 use costs::Cost;
 use costs::Costed;
 use costs::DissatProb;
@@ -18,7 +19,6 @@ use costs::Price;
 use costs::SigType;
 use costs::cost_1d;
 use figures::ExtData;
-use contexts::Context;
 use types::Type;
 use types::TypeResult;
 

@@ -21,13 +21,13 @@ ghost use Rattle.choice.specs.Keys.{AllKeys, MultiOf};
 ghost use Rattle.choice.specs.Threshes.{typesOf, extsOf, costsOf, threshWith, threshAt, withRow, MakesThresh};
 use candidates::Candidate;
 use candidates::Made;
+use contexts::Context;
 use correctness::Base;
 use costs::Cost;
 use costs::Costed;
 use costs::DissatProb;
 use costs::Price;
 use figures::ExtData;
-use contexts::Context;
 use types::Type;
 use types::TypeResult;
 

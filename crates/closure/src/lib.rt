@@ -11,10 +11,10 @@ ghost use Rattle.table.specs.Rows.{TableHolds};
 ghost use Rattle.closure.specs.Closed.{OfferedCast, OfferedCasts, Closes};
 use candidates::Candidate;
 use candidates::CastResult;
+use contexts::Context;
 use costs::DissatProb;
 use table::Offer;
 use table::Table;
-use contexts::Context;
 
 // The casts, and the most elements that one closure pops.
 const CASTS: u8 = 10;

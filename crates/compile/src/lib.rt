@@ -17,11 +17,11 @@ ghost use Rattle.compile.specs.Answers.{Compiles, Choosable, Picks, Whol
 ghost use mathlib.Core.List.{[]};
 use choice::Chosen;
 use choice::Want;
+use contexts::Context;
 use costs::DissatProb;
 use output::Written;
 use policies::ReadPolicy;
 use search_state::Out;
-use contexts::Context;
 
 // Document 01's numbers of refusals.
 const BAD_POLICY: u8 = 3;

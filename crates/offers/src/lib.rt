@@ -12,9 +12,9 @@ use candidates::Candidate;
 use candidates::CastResult;
 use closure::Closed;
 use closure::End;
+use contexts::Context;
 use costs::DissatProb;
 use table::Table;
-use contexts::Context;
 
 // A table with no entry.
 pub fn empty() -> Closed

@@ -11,11 +11,11 @@ ghost use Rattle.oracle_verdicts.specs.Verdicts.{Lent, tallyOf};
 use files::Loaded;
 use libc::STDERR_FILENO;
 use oracle_lines::end_of;
-use showing::show;
-use showing::show_tally;
 use oracle_verdicts::Tally;
 use oracle_verdicts::counted;
 use oracle_verdicts::judge_line;
+use showing::show;
+use showing::show_tally;
 
 const NEWLINE: u8 = 10;
 

@@ -1,6 +1,6 @@
 // What the replay writes to standard output. Its functions are safe and end; no contract can say what they write.
-use oracle_answers::show_answer;
 use libc::STDOUT_FILENO;
+use oracle_answers::show_answer;
 use oracle_verdicts::Tally;
 use oracle_verdicts::Verdict;
 

@@ -11,11 +11,11 @@ ghost use mathlib.Core.Bool.{true, false};
 ghost use Rattle.memory.specs.Layout.{nodeCount};
 ghost use Rattle.cache.specs.Slots.{Kept};
 ghost use Rattle.pairing.specs.Mades.{entriesAt, lengthAt, countOf, PlaceHolds, Paired, Counted, MadeAt};
+use cache::entry;
+use cache::length_of;
 use candidates::Candidate;
 use candidates::Made;
 use nodes::node;
-use cache::entry;
-use cache::length_of;
 use stages::Pairing;
 
 // The kind of a triple.

@@ -30,19 +30,19 @@ ghost use Rattle.offers.specs.Offering.{IsLeaf};
 ghost use Rattle.search.specs.Searching.{IsOr, IsThresh, childSearchers, Going, Doing};
 ghost use Rattle.search.specs.Searching.{castOnce, AllLighter, Under, AskedAll};
 ghost use Rattle.search.specs.Searching.{AllPlaced, AllPaired, OffersIfMade, childDissat, FoundBest, FoundBests};
+use cache::Found;
 use candidates::Candidate;
 use candidates::Made;
 use choice::Chosen;
 use choice::Want;
 use closure::Closed;
 use closure::End;
+use contexts::Context;
 use costs::DissatProb;
 use search_state::Out;
-use cache::Found;
 use stages::Ask;
 use stages::Pairing;
 use table::Table;
-use contexts::Context;
 
 // The casts, and the kinds of policies.
 const CASTS: u8 = 10;

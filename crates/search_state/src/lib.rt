@@ -10,11 +10,11 @@ ghost use Rattle.memory.specs.Layout.{tableCount};
 ghost use Rattle.table.specs.Rows.{Rows, TableHolds};
 ghost use Rattle.search_state.specs.State.{Classed, Ready};
 ghost use Rattle.search_state.specs.Recalled.{Recalled, Remembered};
+use cache::Found;
+use cache::Stored;
 use closure::Closed;
 use closure::End;
 use costs::DissatProb;
-use cache::Found;
-use cache::Stored;
 use table::Table;
 
 // Document 01's refusals.

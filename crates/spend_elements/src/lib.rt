@@ -205,7 +205,10 @@ pub fn test(b: bool) -> Element
     ensures { λ r. ⌜ ((log : List ℕ) → bytesIn log r ≡ element b) ⌝ }
 {
     if b {
-        return Element { at: 1, len: HELD + 1 };
+        return Element {
+            at: 1,
+            len: HELD + 1,
+        };
     }
     Element { at: 0, len: HELD }
 }

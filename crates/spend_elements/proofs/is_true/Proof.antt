@@ -46,11 +46,11 @@ loop-less c = omega arith
 
 loop-again : tie.Need-loop-again Inv-loop μ-loop
 loop-again c = (
-      true-more _ _ (c .before .before .before .before .loop .j) _ (c .before .before .before .before .loop .found) _ _ (c .before .before .before .before .loop .inv .2) (c .before .before .before .loop-test .taken) (c .before .before .byte-of .ensures) (c .before .tells .ensures) (c .either .ensures)
-          (c .before .before .before .before .loop .inv .0),
-      omega (arith, c .before .before .before .loop-test .taken),
-      c .before .before .before .before .loop .inv .2,
-    )
+  true-more _ _ (c .before .before .before .before .loop .j) _ (c .before .before .before .before .loop .found) _ _ (c .before .before .before .before .loop .inv .2) (c .before .before .before .loop-test .taken) (c .before .before .byte-of .ensures) (c .before .tells .ensures) (c .either .ensures)
+      (c .before .before .before .before .loop .inv .0),
+  omega (arith, c .before .before .before .loop-test .taken),
+  c .before .before .before .before .loop .inv .2,
+)
 
 returns : tie.Need-returns Inv-loop μ-loop
 returns c = true-done _ _ (c .before .loop .j) _ (c .before .loop .inv .2) (c .loop-test .left) (c .before .loop .inv .0)

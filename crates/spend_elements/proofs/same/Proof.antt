@@ -48,12 +48,12 @@ loop-less c = omega arith
 
 loop-again : tie.Need-loop-again Inv-loop μ-loop
 loop-again c = (
-      same-more _ _ _ (c .before .before .before .before .loop .j) _ _ (c .before .before .before .before .loop .all) _ (c .before .before .before .before .loop .inv .2) (c .before .before .before .before .loop .inv .3) (c .before .before .before .loop-test .taken) (c .before .before .byte-of .ensures) (c .before .byte-of2 .ensures)
-          (c .both .ensures) (c .before .before .before .before .loop .inv .0),
-      omega (arith, c .before .before .before .loop-test .taken),
-      c .before .before .before .before .loop .inv .2,
-      c .before .before .before .before .loop .inv .3,
-    )
+  same-more _ _ _ (c .before .before .before .before .loop .j) _ _ (c .before .before .before .before .loop .all) _ (c .before .before .before .before .loop .inv .2) (c .before .before .before .before .loop .inv .3) (c .before .before .before .loop-test .taken) (c .before .before .byte-of .ensures) (c .before .byte-of2 .ensures)
+      (c .both .ensures) (c .before .before .before .before .loop .inv .0),
+  omega (arith, c .before .before .before .loop-test .taken),
+  c .before .before .before .before .loop .inv .2,
+  c .before .before .before .before .loop .inv .3,
+)
 
 returns-2 : tie.Need-returns-2 Inv-loop μ-loop
 returns-2 c = same-done _ _ _ (c .before .loop .j) _ (c .before .loop .inv .2) (c .before .loop .inv .3) (c .loop-test .left) (c .before .loop .inv .0)
