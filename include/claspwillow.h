@@ -74,6 +74,16 @@ uint32_t claspwillow_script(uint32_t context, const uint8_t *tree, uint64_t tree
 /* The one length of `work`, in words, that claspwillow_script takes. */
 uint64_t claspwillow_script_work(void);
 
+/* Lists what differs between two fragment trees: from the roots, children left to right, the first place on each path where kind, number, k, n or
+ * keys differ. A difference is 8 bytes at the front of `out`, the record's number in `left` and that in `right`, 4 bytes each, the least
+ * significant first; *differences says how many there are. On a refusal *differences is 0 and `out` is as it was.
+ * `work` is lent: claspwillow_differ_work() words, of any content; they are all zero afterwards, whatever the call gives. */
+uint32_t claspwillow_differ(uint32_t context, const uint8_t *left, uint64_t left_len, const uint8_t *right, uint64_t right_len, uint8_t *out,
+                            uint64_t out_len, uint64_t *work, uint64_t work_len, uint64_t *differences);
+
+/* The one length of `work`, in words, that claspwillow_differ takes. */
+uint64_t claspwillow_differ_work(void);
+
 #ifdef __cplusplus
 }
 #endif

@@ -49,6 +49,8 @@ mod check;
 #[cfg(port)]
 mod compile;
 mod decode;
+#[cfg(port)]
+mod differ;
 mod encode;
 mod figures;
 mod oracle;
@@ -89,6 +91,7 @@ const USAGE: &str = "usage:
   bench script SEED COUNT MAXRECORDS   runs COUNT random trees of each flavour and context, and tables, through the Rust's decoder and the port
   bench speed [all | port]             times the Rust's unmodified compiler and the port over 200 policies; `all` says a line for each policy,
                                        `port` runs the port alone and says nothing, for a profiler
+  bench differ SEED COUNT MAXRECORDS   runs COUNT pairs of trees of each sort and context through a walk of its own and the port
 ";
 
 /// The search recurses, so the work is done on a thread with room for it.
@@ -193,6 +196,17 @@ fn speed(_: &str) -> Result<bool, String> {
     no_port()
 }
 
+#[cfg(port)]
+fn differ(words: [&str; 3]) -> Result<bool, String> {
+    let (seed, count, records) = numbers(words, 4_096)?;
+    Ok(differ::run(seed, count, records))
+}
+
+#[cfg(not(port))]
+fn differ(_: [&str; 3]) -> Result<bool, String> {
+    no_port()
+}
+
 /// Whether all is well; or what is wrong with the words.
 fn run(words: &[&str]) -> Result<bool, String> {
     match *words {
@@ -213,6 +227,7 @@ fn run(words: &[&str]) -> Result<bool, String> {
         ["script", seed, count, records] => script([seed, count, records]),
         ["speed"] => speed(""),
         ["speed", word] => speed(word),
+        ["differ", seed, count, records] => differ([seed, count, records]),
         ["figures"] => Ok(figures::run()),
         ["decode", seed, count, records] => {
             let (seed, count, records) = numbers([seed, count, records], 4_096)?;

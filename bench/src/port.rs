@@ -40,6 +40,19 @@ extern "C" {
         bytes: *mut u64,
     ) -> u32;
     fn claspwillow_script_work() -> u64;
+    fn claspwillow_differ(
+        context: u32,
+        left: *const u8,
+        left_len: u64,
+        right: *const u8,
+        right_len: u64,
+        out: *mut u8,
+        out_len: u64,
+        work: *mut u64,
+        work_len: u64,
+        differences: *mut u64,
+    ) -> u32;
+    fn claspwillow_differ_work() -> u64;
 }
 
 /// The words of work memory that the check asks for.
@@ -118,6 +131,31 @@ pub fn script(context: u32, tree: &[u8], tables: &Tables, out: &mut [u8], work: 
             work.as_mut_ptr(),
             work.len() as u64,
             bytes,
+        )
+    }
+}
+
+/// The words of work memory that differ asks for.
+pub fn differ_work() -> usize {
+    // SAFETY: the function takes nothing.
+    unsafe { claspwillow_differ_work() as usize }
+}
+
+/// The number, and the count of differences as the call left it.
+pub fn differ(context: u32, left: &[u8], right: &[u8], out: &mut [u8], work: &mut [u64], differences: &mut u64) -> u32 {
+    // SAFETY: each slice is passed as its own pointer and length, and the result as a pointer to one word.
+    unsafe {
+        claspwillow_differ(
+            context,
+            left.as_ptr(),
+            left.len() as u64,
+            right.as_ptr(),
+            right.len() as u64,
+            out.as_mut_ptr(),
+            out.len() as u64,
+            work.as_mut_ptr(),
+            work.len() as u64,
+            differences,
         )
     }
 }
