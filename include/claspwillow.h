@@ -42,7 +42,7 @@ enum {
 enum {
     CLASPWILLOW_COMPILE_STACK = 655360,
     CLASPWILLOW_CHECK_STACK = 4096,
-    CLASPWILLOW_SCRIPT_STACK = 2097152
+    CLASPWILLOW_SCRIPT_STACK = 131072
 };
 
 /* Compiles a policy. Writes the records of its tree to the front of `out`, and gives how many bytes they are in *bytes, the bits of the tree's
