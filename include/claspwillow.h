@@ -84,6 +84,15 @@ uint32_t claspwillow_differ(uint32_t context, const uint8_t *left, uint64_t left
 /* The one length of `work`, in words, that claspwillow_differ takes. */
 uint64_t claspwillow_differ_work(void);
 
+/* What a spend of a fragment tree costs: *found is 1 if there is a way to satisfy the tree, and *smallest and *largest are then the fewest and
+ * the most bytes of a witness that does; else, and on a refusal, all three are 0.
+ * `work` is lent: claspwillow_witness_work() words, of any content; they are all zero afterwards, whatever the call gives. */
+uint32_t claspwillow_witness(uint32_t context, const uint8_t *tree, uint64_t tree_len, uint64_t *work, uint64_t work_len, uint32_t *found,
+                             uint64_t *smallest, uint64_t *largest);
+
+/* The one length of `work`, in words, that claspwillow_witness takes. */
+uint64_t claspwillow_witness_work(void);
+
 #ifdef __cplusplus
 }
 #endif

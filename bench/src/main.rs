@@ -69,6 +69,8 @@ mod scripts;
 mod speed;
 mod tapscript;
 mod trees;
+#[cfg(port)]
+mod witness;
 
 use std::io::{self, BufWriter, Write};
 use std::process::ExitCode;
@@ -92,6 +94,7 @@ const USAGE: &str = "usage:
   bench speed [all | port]             times the Rust's unmodified compiler and the port over 200 policies; `all` says a line for each policy,
                                        `port` runs the port alone and says nothing, for a profiler
   bench differ SEED COUNT MAXRECORDS   runs COUNT pairs of trees of each sort and context through a walk of its own and the port
+  bench witness SEED COUNT             runs COUNT random trees of each flavour and context, small ones and compiled ones through every way and the port
 ";
 
 /// The search recurses, so the work is done on a thread with room for it.
@@ -207,6 +210,16 @@ fn differ(_: [&str; 3]) -> Result<bool, String> {
     no_port()
 }
 
+#[cfg(port)]
+fn witness(words: [&str; 2]) -> Result<bool, String> {
+    Ok(witness::run(number(words[0])?, number(words[1])?))
+}
+
+#[cfg(not(port))]
+fn witness(_: [&str; 2]) -> Result<bool, String> {
+    no_port()
+}
+
 /// Whether all is well; or what is wrong with the words.
 fn run(words: &[&str]) -> Result<bool, String> {
     match *words {
@@ -228,6 +241,7 @@ fn run(words: &[&str]) -> Result<bool, String> {
         ["speed"] => speed(""),
         ["speed", word] => speed(word),
         ["differ", seed, count, records] => differ([seed, count, records]),
+        ["witness", seed, count] => witness([seed, count]),
         ["figures"] => Ok(figures::run()),
         ["decode", seed, count, records] => {
             let (seed, count, records) = numbers([seed, count, records], 4_096)?;

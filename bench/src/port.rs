@@ -53,6 +53,17 @@ extern "C" {
         differences: *mut u64,
     ) -> u32;
     fn claspwillow_differ_work() -> u64;
+    fn claspwillow_witness(
+        context: u32,
+        tree: *const u8,
+        tree_len: u64,
+        work: *mut u64,
+        work_len: u64,
+        found: *mut u32,
+        smallest: *mut u64,
+        largest: *mut u64,
+    ) -> u32;
+    fn claspwillow_witness_work() -> u64;
 }
 
 /// The words of work memory that the check asks for.
@@ -158,4 +169,16 @@ pub fn differ(context: u32, left: &[u8], right: &[u8], out: &mut [u8], work: &mu
             differences,
         )
     }
+}
+
+/// The words of work memory that witness asks for.
+pub fn witness_work() -> usize {
+    // SAFETY: the function takes nothing.
+    unsafe { claspwillow_witness_work() as usize }
+}
+
+/// The number, and what was found and the two extremes as the call left them.
+pub fn witness(context: u32, tree: &[u8], work: &mut [u64], found: &mut u32, smallest: &mut u64, largest: &mut u64) -> u32 {
+    // SAFETY: each slice is passed as its own pointer and length, and each result as a pointer to one number.
+    unsafe { claspwillow_witness(context, tree.as_ptr(), tree.len() as u64, work.as_mut_ptr(), work.len() as u64, found, smallest, largest) }
 }

@@ -3,9 +3,10 @@ use Prim.Native.Nat.{ℕ, zero, suc, _<_}
 use mathlib.Core.Bool.{Bool, true, false, cond}
 use mathlib.Core.List.{List, [], _∷_, _++_, map}
 use mathlib.Core.Option.{Option, none, some}
-use mathlib.Core.Path.{_≡_, refl, sym, ap, _∙_}
+use mathlib.Core.Path.{_≡_, refl, sym, ap, subst, _∙_}
 use native.Mathlib.Omega.{arith}
-use lib.Dec.{eqb}
+use borrow.Author.Tests.{ltb-true, ltb-false}
+use lib.Dec.{eqb, ltb}
 use lib.ListN.{length, getD, set}
 use Rattle.records.specs.Payloads.{Payload, childrenOf}
 use Rattle.records.specs.RecordForm.{kindOf}
@@ -293,3 +294,31 @@ module _ {A : Type 0} (_·_ : A → A → A) (unit : A) (laws : Gathers _·_ uni
       let all = read-all tree f (r .writes) in
       let same : r .count ≡ all .count = count-is r (all .count) (all .ends) (rows-read tree (all .reads)) in
       sym (root-free (all .slots) (all .root)) ∙ gathered tree (all .reads) ∙ ap (overRecords _·_ unit own tree) (sym same)
+
+  -- each record's value is a part of what the records up to it put together
+  part : {tree : List ℕ} {n : ℕ} {slots : Slots Fragment} → Read tree n slots → (i : ℕ) → i < n
+      → (rest : A) × (value (fragmentAt tree i) · rest ≡ overRecords _·_ unit own tree (suc i))
+  part start i h = absurd (omega arith)
+  part {tree} (next {n} {slots} len p taken f r l e k g) i h = by-test (ltb i n) refl (λ l. part r i l)
+    where
+      last : (rest : A) × (value (fragmentAt tree n) · rest ≡ overRecords _·_ unit own tree (suc n))
+      last =
+          let its = last-row tree n slots len p taken f r l e k g .0 in (
+            everyFree (taken .left),
+            ap (λ (x : Fragment). value x · everyFree (taken .left)) its ∙ laws .comm (value f) (everyFree (taken .left))
+                ∙ sym (free-more (taken .left) f) ∙ gathered tree (next {n = n} {slots = slots} len p taken f r l e k g),
+          )
+
+      by-test : (t : Bool) → ltb i n ≡ t → (i < n → (rest : A) × (value (fragmentAt tree i) · rest ≡ overRecords _·_ unit own tree (suc i)))
+          → (rest : A) × (value (fragmentAt tree i) · rest ≡ overRecords _·_ unit own tree (suc i))
+      by-test true b before = before (ltb-true i n b)
+      by-test false b before =
+          let same : n ≡ i = omega (arith, ltb-false i n b) in
+          subst (λ (i : ℕ). (rest : A) × (value (fragmentAt tree i) · rest ≡ overRecords _·_ unit own tree (suc i))) same last
+
+  pub part-of : {tree : List ℕ} {f : Fragment} (r : TreeRecords tree f) (i : ℕ) → i < r .count
+      → (rest : A) × (value (fragmentAt tree i) · rest ≡ overRecords _·_ unit own tree (suc i))
+  part-of {tree} {f} r i h =
+      let all = read-all tree f (r .writes) in
+      let same : r .count ≡ all .count = count-is r (all .count) (all .ends) (rows-read tree (all .reads)) in
+      part (all .reads) i (omega arith)

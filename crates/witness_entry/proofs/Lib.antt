@@ -1,0 +1,7 @@
+pub mod Steps
+pub mod Weights
+pub mod Memory
+pub mod Filling
+pub mod Promised
+pub mod Determined
+pub mod FewBytes

@@ -1,0 +1,3 @@
+-- For the contracts of this crate and of the entry, in reading order.
+pub mod Bounds
+pub mod ByKind
