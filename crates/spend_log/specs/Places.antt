@@ -1,13 +1,16 @@
 -- Where the parts of a log lie in its bytes: what the readers of this crate answer, by the definitions of Readers.antt and Logs.antt.
-use Prim.Native.Nat.{ℕ, _+_, _-_}
+use Prim.Native.Nat.{ℕ, _+_, _-_, _≤_}
 use mathlib.Core.Bool.{cond}
 use mathlib.Core.List.{List}
 use mathlib.Core.Option.{Option, none, some}
 use lib.Dec.{eqb}
-use lib.ListN.{length, getD, drop}
+use mathlib.Core.Path.{_≡_}
+use lib.ListN.{length, getD, take, drop}
 use Rattle.records.specs.Numbers.{u32}
+use Rattle.script_machine.specs.Numbers.{Bytes}
+use Rattle.script_bytes.specs.Tables.{Tables, tables}
 use Rattle.spend_log.specs.Readers.{Read, Reader}
-use Rattle.spend_log.specs.Logs.{Head}
+use Rattle.spend_log.specs.Logs.{Head, head}
 use Rattle.spend_machine.specs.Entries.{Entry}
 use Rattle.spend_log.specs.declared.Place.{Place}
 use Rattle.spend_log.specs.declared.Place.the-variants as Place
@@ -60,6 +63,31 @@ offsets h =
 abbrev pub headAnswer : Option (Read Head) → HeadAt
 headAnswer none = HeadAt.Broken
 headAnswer (some r) = HeadAt.Whole (offsets (r .value))
+
+-- the bytes from one place up to another; the tree, the tables and the head that lie at such places
+abbrev pub partIn : Bytes → (from to : ℕ) → Bytes
+partIn log from to = take (to - from) (drop from log)
+
+abbrev pub treeIn : Bytes → Offsets → Bytes
+treeIn log h = partIn log 24 (h .keys)
+
+abbrev pub tablesIn : Bytes → Offsets → Tables
+tablesIn log h =
+    tables (partIn log (h .keys) (h .«key_hashes»)) (partIn log (h .«key_hashes») (h .hashes32)) (partIn log (h .hashes32) (h .hashes20))
+    (partIn log (h .hashes20) (h .entries))
+
+abbrev pub headIn : Bytes → Offsets → Head
+headIn log h = record { context = h .context; tree = treeIn log h; tables = tablesIn log h }
+
+-- A log's head lies at these places, one behind the other.
+pub record Lies (log : Bytes) (h : Offsets) : Type 0 where
+  pub reads : head log ≡ some (record { value = headIn log h; behind = drop (h .entries) log })
+  pub keys : 24 ≤ h .keys
+  pub key-hashes : h .keys ≤ h .«key_hashes»
+  pub hashes32 : h .«key_hashes» ≤ h .hashes32
+  pub hashes20 : h .hashes32 ≤ h .hashes20
+  pub entries : h .hashes20 ≤ h .entries
+  pub within : h .entries ≤ length log
 
 -- how many entries were read
 abbrev pub countAnswer : Option (Read (List Entry)) → Counted

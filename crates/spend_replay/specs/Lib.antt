@@ -1,0 +1,3 @@
+-- What a user of the replay must believe, in reading order.
+pub mod Replay
+pub mod Laws

@@ -1,0 +1,4 @@
+-- What the contracts of this crate cite.
+pub mod Outcomes
+pub mod Machines
+pub mod Pieces

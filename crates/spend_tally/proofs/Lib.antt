@@ -1,0 +1,2 @@
+-- Why the counts are right.
+pub mod Counts
