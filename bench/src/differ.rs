@@ -3,6 +3,7 @@
 use crate::port;
 use crate::random::Random;
 use crate::records::{to_hex, u16_at, u16s, u32_at, Writer, TREE_RECORDS};
+use crate::room::HEIGHT;
 use crate::trees::{self, CHECK_WORK};
 
 const OUTPUT_TOO_SMALL: u32 = 13;
@@ -96,7 +97,7 @@ fn wanted(context: u32, left: &[u8], right: &[u8]) -> Result<Vec<(u32, u32)>, u3
 struct Desk {
     work: Vec<u64>,
     out: Vec<u8>,
-    numbers: [u64; 18],
+    numbers: [u64; 20],
     differences: u64,
 }
 
@@ -315,15 +316,16 @@ fn chain(kinds: &[u16], records: usize) -> Vec<u8> {
 
 /// Trees of the greatest height and of different heights, and each refusal by its smallest case.
 fn corners(desk: &mut Desk, random: &mut Random) {
-    let deep = chain(&[48], TREE_RECORDS);
-    let long = chain(&[48], TREE_RECORDS + 1);
+    let deep = chain(&[48], HEIGHT);
+    let tall = chain(&[48], HEIGHT + 1);
+    let long = [4, 0, 33, 0].repeat(TREE_RECORDS + 1);
     let low = chain(&[48], 3);
     let key = |n: u8| [8, 0, 34, 0, n, 0, 0, 0, 6, 0, 44, 0, 0, 0];
     for (left, right) in [(&deep, &deep), (&deep, &low), (&low, &deep)] {
         run_pair(desk, random, 0, left, right);
     }
     let ill_typed = [4, 0, 33, 0, 6, 0, 44, 0, 0, 0];
-    let list: [(u32, u32, &[u8], &[u8], usize, usize); 10] = [
+    let list: [(u32, u32, &[u8], &[u8], usize, usize); 12] = [
         (0, 0, &key(7), &key(7), 0, WORK),
         (0, 1, &key(7), &key(8), 8, WORK),
         (1, 2, &[], &[], 0, 0),
@@ -331,6 +333,8 @@ fn corners(desk: &mut Desk, random: &mut Random) {
         (14, 0, &[], &ill_typed, 0, WORK),
         (15, 0, &ill_typed, &[], 0, WORK),
         (16, 0, &long, &ill_typed, 0, WORK),
+        (19, 0, &tall, &ill_typed, 0, WORK),
+        (19, 0, &key(7), &tall, 0, WORK),
         (14, 0, &key(7), &[], 0, WORK),
         (15, 0, &key(7), &ill_typed, 0, WORK),
         (OUTPUT_TOO_SMALL, 0, &key(7), &key(8), 7, WORK),
