@@ -4,3 +4,5 @@ pub mod Recorded
 pub mod Verdicts
 pub mod FixedOutcomes
 pub mod Laws
+-- for the inner contracts
+pub mod Playing

@@ -12,6 +12,7 @@ use Rattle.script_machine.specs.Machine.{State, aborted, state, step}
 use Rattle.script_bytes.specs.Tables.{Tables}
 use Rattle.spend_machine.specs.Entries.{Outcome}
 use Rattle.spend_machine.specs.Recorded.{Run, stands, stuck, large, within, recordedStep}
+use Rattle.spend_machine.specs.Playing.{opened}
 use Rattle.spend_elements.specs.declared.Element.{Element}
 use Rattle.spend_elements.specs.Elements.{bytesIn}
 use Rattle.spend_stack.specs.declared.Machine.{Machine}
@@ -19,7 +20,7 @@ use Rattle.spend_stack.specs.declared.Status.{Status}
 use Rattle.spend_stack.specs.declared.Status.the-variants as Status
 use Rattle.spend_stack.specs.Machines.{elementAt, putElement, stackOf, going, isGoing, withStatus, withMain, standing, leftOf, runOf}
 use Rattle.spend_stack.specs.Machines.{Asks, Fits, Over, pushed, Pushes, Does, DoesBoth}
-use Rattle.spend_stack.specs.Pieces.{opened, Opens}
+use Rattle.spend_stack.specs.Pieces.{Opens}
 use Rattle.spend_stack.proofs.Stacks.{put-length, height, put-top, none-on, one-on, within-few, within-many}
 
 -- how a machine stands

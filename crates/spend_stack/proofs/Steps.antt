@@ -16,6 +16,7 @@ use Rattle.script_machine.specs.Machine.{ok, State, aborted, state, step, mayBr
 use Rattle.script_bytes.specs.Tables.{Tables}
 use Rattle.spend_machine.specs.Entries.{Outcome}
 use Rattle.spend_machine.specs.Recorded.{Run, stands, large, within, recordedStep}
+use Rattle.spend_machine.specs.Playing.{opened}
 use Rattle.spend_elements.specs.declared.Element.{Element}
 use Rattle.spend_elements.specs.declared.Number.{Number}
 use Rattle.spend_elements.specs.Elements.{held, smallLength, bytesIn}
@@ -25,7 +26,7 @@ use Rattle.spend_stack.specs.declared.Machine.{Machine}
 use Rattle.spend_stack.specs.declared.Pair.{Pair}
 use Rattle.spend_stack.specs.declared.Pair.the-variants as Pair
 use Rattle.spend_stack.specs.Machines.{elementAt, stackOf}
-use Rattle.spend_stack.specs.Pieces.{combine, wordOf, topTrue, opened}
+use Rattle.spend_stack.specs.Pieces.{combine, wordOf, topTrue}
 use Rattle.spend_stack.proofs.Stacks.{none-on, one-on, two-on, one-only}
 use Rattle.spend_stack.proofs.Laws.{On}
 

@@ -7,8 +7,7 @@ use lib.IntN.{ℤ, _+ℤ_}
 use Rattle.contexts.specs.declared.Context.{Context}
 use Rattle.script_machine.specs.Numbers.{Bytes, Stack, isTrue, element, write, nonzero, equal}
 use Rattle.script_machine.specs.Words.{Word, BOOLAND, BOOLOR, ADD, NUMEQUAL}
-use Rattle.script_machine.specs.Machine.{aborted, state, mayBranch}
-use Rattle.spend_machine.specs.Recorded.{Run, stands, stuck, large}
+use Rattle.spend_machine.specs.Playing.{opened}
 use Rattle.spend_stack.specs.declared.Pair.{Pair}
 use Rattle.spend_stack.specs.declared.Pair.the-variants as Pair
 use Rattle.spend_stack.specs.declared.Machine.{Machine}
@@ -27,17 +26,10 @@ combine Pair.BoolAnd i j = element (nonzero i && nonzero j)
 combine Pair.BoolOr i j = element (nonzero i || nonzero j)
 combine Pair.Add i j = write (i +ℤ j)
 
--- IF and NOTIF by the top element: whether it is true, and that it is taken, if it may be
+-- whether the top element is true to IF; that IF or NOTIF takes it, if it may
 abbrev pub topTrue : Stack → Bool
 topTrue [] = false
 topTrue (x ∷ m) = isTrue x
-
-abbrev pub opened : Context → Run → Run
-opened c (stands aborted rs) = stands aborted rs
-opened c (stands (state [] a cs) rs) = stands aborted rs
-opened c (stands (state (x ∷ m) a cs) rs) = cond (mayBranch c x) (stands (state m a cs) rs) (stands aborted rs)
-opened c stuck = stuck
-opened c large = large
 
 pub record Opens (c : Context) (log memory : List ℕ) (m r : Machine) : Type 0 where
   pub says : (alt : List ℕ) → runOf log memory alt r ≡ opened c (runOf log memory alt m)
