@@ -1,0 +1,4 @@
+-- Why the contracts hold.
+pub mod Next
+pub mod Telling
+pub mod Groups
