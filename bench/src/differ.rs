@@ -233,6 +233,66 @@ fn changed(random: &mut Random, context: u32, records: &[Record], times: usize) 
     records.to_vec()
 }
 
+/// A record over others of a list, and its number.
+fn put(list: &mut Vec<Record>, kind: u16, numbers: Vec<u32>, children: Vec<usize>) -> usize {
+    list.push(Record { kind, numbers, children });
+    list.len() - 1
+}
+
+/// A fragment that a Thresh may have as its first child: a key, a hash, a multisignature, or a Thresh again, at most so many in each other.
+fn part(random: &mut Random, context: u32, list: &mut Vec<Record>, levels: usize) -> usize {
+    match random.below(4) {
+        0 if levels > 0 => threshold(random, context, list, levels - 1),
+        1 => {
+            let n = random.between(1, 16);
+            let k = random.between(1, n);
+            let mut numbers = vec![k as u32, n as u32];
+            numbers.extend((0..n).map(|_| random.below(20) as u32));
+            put(list, 57 + context as u16, numbers, vec![])
+        }
+        2 => put(list, random.between(38, 41) as u16, vec![random.below(20) as u32], vec![]),
+        _ => {
+            let key = put(list, random.between(34, 35) as u16, vec![random.below(20) as u32], vec![]);
+            put(list, 44, vec![], vec![key])
+        }
+    }
+}
+
+/// A Thresh of at least two children that asks for fewer than it has.
+fn threshold(random: &mut Random, context: u32, list: &mut Vec<Record>, levels: usize) -> usize {
+    let n = random.between(2, 6);
+    let mut children = vec![part(random, context, list, levels)];
+    for _ in 1..n {
+        let other = part(random, context, list, levels);
+        children.push(put(list, 42, vec![], vec![other]));
+    }
+    put(list, 56, vec![random.between(1, n - 1) as u32, n as u32], children)
+}
+
+/// A tree with such a Thresh: by itself, or as a branch of an OrI beside a random tree that suits.
+fn with_threshold(random: &mut Random, context: u32, records: usize) -> Vec<u8> {
+    let mut list = Vec::new();
+    let one = threshold(random, context, &mut list, 2);
+    let alone = bytes_of(&list);
+    let beside = trees::case(random, context, 0, records);
+    if random.once_in(3) || trees::check(context, &beside, CHECK_WORK).0 != 0 {
+        return alone;
+    }
+    let from = list.len();
+    for record in records_of(&beside) {
+        list.push(Record { children: record.children.iter().map(|&child| child + from).collect(), ..record });
+    }
+    let other = list.len() - 1;
+    let branches = if random.once_in(2) { vec![one, other] } else { vec![other, one] };
+    put(&mut list, 54, vec![], branches);
+    let both = bytes_of(&list);
+    if trees::check(context, &both, CHECK_WORK).0 == 0 {
+        both
+    } else {
+        alone
+    }
+}
+
 /// A Thresh with its last child left out, wherever the tree has one with more than k children and the rest is still a tree; else the same tree.
 fn fewer_children(random: &mut Random, context: u32, records: &[Record]) -> Vec<Record> {
     let thresholds: Vec<usize> = (0..records.len()).filter(|&i| records[i].kind == 56 && records[i].numbers[0] < records[i].numbers[1]).collect();
@@ -261,7 +321,18 @@ fn fewer_children(random: &mut Random, context: u32, records: &[Record]) -> Vec<
     }
 }
 
+/// A left tree that the check passes; for a child less it has a Thresh with a child to spare.
+fn left_tree(random: &mut Random, context: u32, pair: usize, records: usize) -> Vec<u8> {
+    loop {
+        let tree = if pair == CHILD_LESS { with_threshold(random, context, records) } else { trees::case(random, context, 0, records) };
+        if trees::check(context, &tree, CHECK_WORK).0 == 0 {
+            return tree;
+        }
+    }
+}
+
 /// What the right tree of a pair is.
+const CHILD_LESS: usize = 4;
 const PAIRS: [&str; 7] =
     ["the same in another order", "one record changed", "two records changed", "many records changed", "a child less", "another tree", "a refused tree"];
 
@@ -276,7 +347,7 @@ fn partner(random: &mut Random, context: u32, pair: usize, left: &[u8], records:
             let many = random.between(3, 3 + own.len());
             changed(random, context, &own, many)
         }
-        4 => fewer_children(random, context, &own),
+        CHILD_LESS => fewer_children(random, context, &own),
         5 => return trees::case(random, context, 0, records),
         _ => {
             let flavour = random.between(1, 2);
@@ -362,10 +433,7 @@ pub fn run(seed: u64, count: u64, records: usize) -> bool {
         for (pair, name) in PAIRS.iter().enumerate() {
             let mut with = [0u64; 4];
             for _ in 0..count {
-                let mut left = trees::case(&mut random, context, 0, records);
-                while trees::check(context, &left, CHECK_WORK).0 != 0 {
-                    left = trees::case(&mut random, context, 0, records);
-                }
+                let left = left_tree(&mut random, context, pair, records);
                 let right = partner(&mut random, context, pair, &left, records);
                 let found = run_pair(&mut desk, &mut random, context, &left, &right);
                 with[found.min(3)] += 1;

@@ -4,9 +4,11 @@
 //     console check CONTEXT TREE                 checks a fragment tree and shows its type
 //     console script CONTEXT TREE KEYS KEYHASHES HASHES32 HASHES20 [OUTPUT]
 //                                                shows the script of a fragment tree, writes its bytes to the new file OUTPUT
+//     console differ CONTEXT LEFT RIGHT          shows what differs between two fragment trees
 //
 // A caller looks at the first word of standard output, which is document 01's number; there is none where something else went wrong, and then
 // standard error says what.
+mod differ_command;
 mod script_command;
 
 ghost use Prim.Native.Nat.{_≤_};
@@ -38,12 +40,12 @@ fn show_and_save(bytes: usize, cost: u64, never: u32, nodes: u64, tree: &[u8])
     }
 }
 
-// Reads the records that the words name.
-fn load_records(room: &mut [u8]) -> Loaded
+// Reads the records that word i names.
+fn load_records(i: usize, room: &mut [u8]) -> Loaded
     ensures { λ r. ⌜ Held (length (now (room .exit))) r ⌝ }
 {
     files::load_word(
-        INPUT_WORD,
+        i,
         b"the path",
         true,
         b": longer than 294912 bytes, 4096 records of 72 bytes: no tree within the limits is\n",
@@ -54,7 +56,7 @@ fn load_records(room: &mut [u8]) -> Loaded
 // Compiles the policy that the words name and shows the answer.
 fn compile(context: u32) {
     let mut policy = [0u8; ROOM];
-    let Loaded::Bytes(n) = load_records(&mut policy) else {
+    let Loaded::Bytes(n) = load_records(INPUT_WORD, &mut policy) else {
         return;
     };
     let mut tree = [0u8; TREE_ROOM];
@@ -83,7 +85,7 @@ fn compile(context: u32) {
 // Checks the tree that the words name and shows the answer.
 fn check_tree(context: u32) {
     let mut tree = [0u8; ROOM];
-    let Loaded::Bytes(n) = load_records(&mut tree) else {
+    let Loaded::Bytes(n) = load_records(INPUT_WORD, &mut tree) else {
         return;
     };
     let mut work = [0u64; CHECK_WORDS];
@@ -101,6 +103,7 @@ fn main() {
         Asked::Compile(context) => compile(context),
         Asked::Check(context) => check_tree(context),
         Asked::Script(context) => script_command::write_script(context),
+        Asked::Differ(context) => differ_command::differ_trees(context),
         Asked::Nothing => {}
     }
 }

@@ -5,6 +5,7 @@ use crate::ROOM;
 use crate::load_records;
 use command_line::HASHES20_WORD;
 use command_line::HASHES32_WORD;
+use command_line::INPUT_WORD;
 use command_line::KEY_HASHES_WORD;
 use command_line::KEYS_WORD;
 use command_line::SCRIPT_WORD;
@@ -113,7 +114,7 @@ fn script_with_keys(context: u32, tree: &[u8], keys: &[u8]) {
 // Writes the script of the tree that the words name, with the tables that they name, and shows the answer.
 pub fn write_script(context: u32) {
     let mut tree = [0u8; ROOM];
-    let Loaded::Bytes(t) = load_records(&mut tree) else {
+    let Loaded::Bytes(t) = load_records(INPUT_WORD, &mut tree) else {
         return;
     };
     let mut keys = [0u8; KEYS_ROOM];

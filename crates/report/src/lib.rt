@@ -1,5 +1,5 @@
-// The answers of compile, of the tree check and of the script as lines of standard output. What is not public answers whether all of its text was written; where
-// not, the public functions say so on standard error.
+// The answers of the entries as lines of standard output. What is not public answers whether all of its text was written; where not, the public
+// functions say so on standard error.
 //
 // Every function is safe and ends. No contract can say what is written to a descriptor.
 use libc::STDOUT_FILENO;
@@ -16,6 +16,14 @@ use types::Type;
 use types::Unpacked;
 
 mod amounts;
+mod differences;
+
+// A tree that a refusal is about, of two, or none of them.
+pub enum Side {
+    Left,
+    Right,
+    Neither,
+}
 
 // Writes a text.
 fn say(text: &[u8]) -> bool {
@@ -79,6 +87,15 @@ fn show_meaning(number: u32) -> bool {
     }
 }
 
+// The line that says which of two trees a refusal is about, if it is about one.
+fn show_side(side: Side) -> bool {
+    match side {
+        Side::Left => say(b"the left tree is refused\n"),
+        Side::Right => say(b"the right tree is refused\n"),
+        Side::Neither => true,
+    }
+}
+
 // The line of a cost: `never`, or its bits and its number.
 fn show_cost(cost: u64, never: u32) -> bool {
     if never == 1 {
@@ -125,10 +142,10 @@ fn show_children(children: [u16; 16], count: usize) -> bool {
 // The first `count` of a record's keys.
 fn show_keys(bytes: &[u8], count: usize) -> bool {
     let mut whole = true;
-    let mut i = 0;
+    let mut i: u16 = 0;
     while i < 16 {
-        if i < count {
-            let said = say_number(records::u32_or_zero(bytes, 8 + 4 * i) as u64);
+        if (i as usize) < count {
+            let said = say_number(records::key_at(bytes, i) as u64);
             whole = whole & said;
         }
         i += 1;
@@ -167,15 +184,20 @@ fn show_payload(kind: u16, bytes: &[u8]) -> bool {
     }
 }
 
-// The line of a record: its number, its kind's name, its numbers.
-fn show_record(number: usize, bytes: &[u8]) -> bool {
+// A record: its number, its kind's name, its numbers.
+fn say_record(number: usize, bytes: &[u8]) -> bool {
     let kind = records::kind_of(bytes);
     let mut name = kind_name(kind);
     let numbered = io::print_decimal(STDOUT_FILENO, number as u64);
     let spaced = say(b" ");
     let named = say_places(&mut name);
-    let paid = show_payload(kind, bytes);
-    say(b"\n") & numbered & spaced & named & paid
+    show_payload(kind, bytes) & numbered & spaced & named
+}
+
+// The line of a record.
+fn show_record(number: usize, bytes: &[u8]) -> bool {
+    let said = say_record(number, bytes);
+    say(b"\n") & said
 }
 
 // A line for each record of a tree, in order.
@@ -232,6 +254,13 @@ pub fn show_refusal(number: u32) {
     say_unless(show_meaning(number) & first);
 }
 
+// Shows a refusal of two trees: its number, what it means, and which of the trees it is about.
+pub fn show_refusal_of(number: u32, side: Side) {
+    let first = show_number(number);
+    let second = show_meaning(number);
+    say_unless(show_side(side) & first & second);
+}
+
 // Shows the answer to a policy that is compiled: what it gives, and its tree.
 pub fn show_compiled(cost: u64, never: u32, nodes: u64, tree: &[u8]) {
     let first = show_number(0);
@@ -253,4 +282,10 @@ pub fn show_script(script: &[u8]) {
     let first = show_number(0);
     let counted = say_line(b"bytes", script.len() as u64);
     say_unless(show_bytes(script) & first & counted);
+}
+
+// Shows the differences of two trees, of which the entry has told both record numbers in eight bytes each: how many there are, and each as a line.
+pub fn show_differences(left: &[u8], right: &[u8], told: &[u8]) {
+    let first = show_number(0);
+    say_unless(differences::show_all(left, right, told) & first);
 }

@@ -24,13 +24,13 @@ array-share-prefix-tree : tie.Need-array-share-prefix-tree
 array-share-prefix-tree c =
     let load-records = c .before .before .before .before .load-records in
     let n = c .before .n in
-    loaded-within (load-records .last .0) (load-records .ensures) (n .given .1)
+    loaded-within (load-records .last .1 .0) (load-records .ensures) (n .given .1)
 
 slice-aggregate-claspwillow-check : tie.Need-slice-aggregate-claspwillow-check
 slice-aggregate-claspwillow-check c =
     let load-records = c .before .before .before .before .before .load-records in
     let n = c .before .before .n in
-    loaded-length (load-records .last .0) (load-records .ensures) (n .given .1)
+    loaded-length (load-records .last .1 .0) (load-records .ensures) (n .given .1)
 
 slice-aggregate-claspwillow-check-2 : tie.Need-slice-aggregate-claspwillow-check-2
 slice-aggregate-claspwillow-check-2 c = zeros-length 4096

@@ -24,13 +24,13 @@ array-share-prefix-policy : tie.Need-array-share-prefix-policy
 array-share-prefix-policy c =
     let load-records = c .before .before .before .before .load-records in
     let n = c .before .n in
-    loaded-within (load-records .last .0) (load-records .ensures) (n .given .1)
+    loaded-within (load-records .last .1 .0) (load-records .ensures) (n .given .1)
 
 slice-aggregate-claspwillow-compile : tie.Need-slice-aggregate-claspwillow-compile
 slice-aggregate-claspwillow-compile c =
     let load-records = c .before .before .before .before .before .load-records in
     let n = c .before .before .n in
-    loaded-length (load-records .last .0) (load-records .ensures) (n .given .1)
+    loaded-length (load-records .last .1 .0) (load-records .ensures) (n .given .1)
 
 slice-aggregate-claspwillow-compile-2 : tie.Need-slice-aggregate-claspwillow-compile-2
 slice-aggregate-claspwillow-compile-2 c = zeros-length 294912

@@ -14,14 +14,11 @@ abbrev μ-loop : tie.MeasureT-loop
 loop-holds : tie.Need-loop-holds Inv-loop μ-loop
 loop-holds c = search needs
 
-mul-u32-or-zero : tie.Need-mul-u32-or-zero Inv-loop μ-loop
-mul-u32-or-zero c = search needs
+cast-if1 : tie.Need-cast-if1 Inv-loop μ-loop
+cast-if1 c = search needs
 
-add-u32-or-zero : tie.Need-add-u32-or-zero Inv-loop μ-loop
-add-u32-or-zero c = search needs
-
-u32-or-zero-requires : tie.Need-u32-or-zero-requires Inv-loop μ-loop
-u32-or-zero-requires c κs = tt
+key-at-requires : tie.Need-key-at-requires Inv-loop μ-loop
+key-at-requires c κs = tt
 
 cast-say-number : tie.Need-cast-say-number Inv-loop μ-loop
 cast-say-number c = search needs
@@ -48,9 +45,8 @@ show-keys-spec =
     Inv-loop
     μ-loop
     loop-holds
-    mul-u32-or-zero
-    add-u32-or-zero
-    u32-or-zero-requires
+    cast-if1
+    key-at-requires
     cast-say-number
     say-number-requires
     add-i

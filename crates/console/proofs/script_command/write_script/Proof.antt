@@ -38,13 +38,13 @@ array-share-prefix-tree : tie.Need-array-share-prefix-tree
 array-share-prefix-tree c =
     let load-records = c .before .before .before .before .before .before .before .before .before .before .load-records in
     let t = c .before .before .before .before .before .before .before .t in
-    loaded-within (load-records .last .0) (load-records .ensures) (t .given .1)
+    loaded-within (load-records .last .1 .0) (load-records .ensures) (t .given .1)
 
 slice-aggregate-script-with-keys : tie.Need-slice-aggregate-script-with-keys
 slice-aggregate-script-with-keys c =
     let load-records = c .before .before .before .before .before .before .before .before .before .before .before .load-records in
     let t = c .before .before .before .before .before .before .before .before .t in
-    loaded-length (load-records .last .0) (load-records .ensures) (t .given .1)
+    loaded-length (load-records .last .1 .0) (load-records .ensures) (t .given .1)
 
 array-share-prefix-keys : tie.Need-array-share-prefix-keys
 array-share-prefix-keys c =
