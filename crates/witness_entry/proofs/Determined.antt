@@ -1,11 +1,9 @@
 -- The promise determines its outcome. Assumes nothing.
 use Prim.Native.Nat.{ℕ}
-use mathlib.Core.List.{List}
-use mathlib.Core.Option.{some}
 use mathlib.Core.Path.{_≡_, refl, sym, subst, _∙_}
 use Rattle.contexts.specs.declared.Context.{Context}
 use Rattle.trees.specs.Reading.{Answer}
-use Rattle.trees.specs.TreeCheck.{Typed, contextOf}
+use Rattle.trees.specs.TreeCheck.{Typed}
 use Rattle.witness_ways.specs.Spends.{Spends}
 use Rattle.witness_ways.proofs.Theorem.{spends-once}
 use Rattle.witness_entry.specs.Witness.{Results, refuses, spends, WitnessDetermined}

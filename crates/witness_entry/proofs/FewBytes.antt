@@ -1,19 +1,16 @@
 -- What the entry gives is below 2^31. Assumes nothing.
 use Prim.Native.Nat.{ℕ, _-_, _≤_}
 use mathlib.Core.List.{List}
-use mathlib.Core.Path.{_≡_, refl, sym, ap, subst, _∙_}
+use mathlib.Core.Path.{_≡_, refl, subst}
 use native.Mathlib.Omega.{arith}
 use lib.ListN.{length}
-use Rattle.contexts.specs.declared.Context.{Context}
 use Rattle.trees.specs.Fragment.{Fragment}
 use Rattle.trees.specs.Reading.{Answer, done, _>>=_, orRefuse, maxRecords}
 use Rattle.trees.specs.TreeCheck.{Typed, badContext, badWork, contextOf, checkOf}
-use Rattle.walk.specs.TreeRecords.{fragmentAt}
 use Rattle.walk.proofs.ReadRecords.{bind-done}
 use Rattle.walk.proofs.Laws.{rows}
 use Rattle.witness_ways.specs.declared.Extremes.{Extremes}
 use Rattle.witness_ways.specs.Extremes.{sat, extremes, smallestIn, largestIn}
-use Rattle.witness_ways.specs.Spends.{Spends}
 use Rattle.witness_ways.proofs.Theorem.{spends-computed, spends-once}
 use Rattle.witness_rules.specs.Bounds.{Below, none, both}
 use Rattle.witness_entry.specs.Witness.{workOf, treeIn, Results, refuses, spends, WitnessPromise}

@@ -1,5 +1,5 @@
 -- Work memory is filled record by record, children first. Assumes nothing.
-use Prim.Native.Nat.{ℕ, zero, suc, _+_, _*_, _-_, _≤_, _<_}
+use Prim.Native.Nat.{ℕ, _+_, _*_, _-_, _≤_, _<_}
 use mathlib.Core.Bool.{Bool, true, false}
 use mathlib.Core.List.{List, map}
 use mathlib.Core.Option.{some}
@@ -19,7 +19,6 @@ use Rattle.records.proofs.Arities.{Found, own-children, few-children, rule-need
 use Rattle.records.proofs.Laws.{length-bounds, whole-room}
 use Rattle.contexts.specs.declared.Context.{Context}
 use Rattle.trees.specs.Fragment.{Fragment}
-use Rattle.trees.specs.Reading.{maxRecords}
 use Rattle.walk.specs.TreeRecords.{lengthFrom, startOf, recordAt, fragmentAt, TreeRecord, TreeRecords}
 use Rattle.walk.proofs.Laws.{start-first, start-next, bytes-at, not-last, all-read, same-count}
 use Rattle.witness_ways.specs.declared.Both.{Both}
@@ -27,7 +26,7 @@ use Rattle.witness_ways.specs.Extremes.{extremes}
 use Rattle.witness_rules.specs.Bounds.{BothBelow}
 use Rattle.witness_rules.specs.ByKind.{waysOf}
 use Rattle.witness_entry.specs.Memory.{bothIn, putBoth, Loaded}
-use Rattle.witness_entry.specs.Records.{waysWith, waysIn, Stands, Filled}
+use Rattle.witness_entry.specs.Records.{waysIn, Stands, Filled}
 use Rattle.witness_entry.proofs.Steps.{same-ways, record-ways}
 use Rattle.witness_entry.proofs.Weights.{extremes-small}
 use Rattle.witness_entry.proofs.Memory.{put-same, put-other, loaded-child, loaded-all}

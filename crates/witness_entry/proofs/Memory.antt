@@ -7,13 +7,12 @@ use native.Mathlib.Omega.{arith}
 use native.Mathlib.Nat.{mod-lt, div-lt-iff-lt-mul}
 use borrow.Author.Tests.{eqb-true, eqb-false, ltb-true, ltb-false}
 use lib.Dec.{eqb, ltb}
-use lib.ListN.{length, getD, set, take, replicate, length-set, length-map, getD-replicate, length-replicate, List·getD-map, List·getD-eq-default}
+use lib.ListN.{length, getD, set, take, replicate, length-set, length-map, getD-replicate, List·getD-eq-default}
 use lib.Seq.{getD-set-same, getD-set-other, getD-take, ext-getD, length-take-le}
 use Rattle.words.proofs.Packing.{digit, rest}
 use Rattle.witness_ways.specs.declared.Extremes.{Extremes}
 use Rattle.witness_ways.specs.declared.Extremes.the-variants.{NoWay, Bytes}
 use Rattle.witness_ways.specs.declared.Both.{Both}
-use Rattle.witness_ways.specs.Extremes.{ways}
 use Rattle.witness_rules.specs.Bounds.{Below, none, both, BothBelow, AllBelow, neither, small}
 use Rattle.witness_rules.specs.ByKind.{child}
 use Rattle.witness_entry.specs.Memory.{wordOf, extremesIn, bothIn, putBoth, Loaded}

@@ -13,14 +13,14 @@ use Rattle.words.specs.Memory.{zeroed}
 use Rattle.contexts.specs.declared.Context.{Context}
 use Rattle.trees.specs.Fragment.{Fragment}
 use Rattle.trees.specs.Reading.{Answer, refused, done, maxRecords}
-use Rattle.trees.specs.TreeCheck.{Typed, badContext, badWork, contextOf, checkOf}
+use Rattle.trees.specs.TreeCheck.{Typed, badContext, contextOf, checkOf}
 use Rattle.claspwillow.specs.Promises.{CheckPromise}
 use Rattle.claspwillow.proofs.CheckLaws.{passed, refused-as}
 use Rattle.walk.specs.TreeRecords.{fragmentAt, TreeRecords, Written}
 use Rattle.walk.proofs.Laws.{rows}
 use Rattle.witness_ways.specs.declared.Extremes.{Extremes}
 use Rattle.witness_ways.specs.declared.Both.{Both}
-use Rattle.witness_ways.specs.Extremes.{sat, extremes, foundIn, smallestIn, largestIn}
+use Rattle.witness_ways.specs.Extremes.{sat, extremes}
 use Rattle.witness_ways.proofs.Theorem.{spends-computed}
 use Rattle.witness_entry.specs.declared.Given.{Given}
 use Rattle.witness_entry.specs.Witness.{workWords, treeIn, Results, refuses, spends, WitnessPromise}
@@ -72,8 +72,12 @@ module _ {context : ℕ} {tree work : List ℕ} {number ty : ℕ} {after : List 
       let p = tree-passes z in
       let zero-number : r .number ≡ 0 = ap (λ (r : Given). r .number) g in
       record {
-        passes = λ s. (p .0, p .1, λ c k. g ∙ ap givenOf (root (p .0 .tree) (rows context tree maxRecords (p .0) (p .1))
-            ∙ ap (λ (c : Context). sat (extremes c (p .0 .tree))) (is c k)));
+        passes = λ s. (
+          p .0,
+          p .1,
+          λ c k. g ∙ ap givenOf (root (p .0 .tree) (rows context tree maxRecords (p .0) (p .1))
+              ∙ ap (λ (c : Context). sat (extremes c (p .0 .tree))) (is c k)),
+        );
         refuses = λ s. absurd (s zero-number);
       }
 

@@ -1,27 +1,27 @@
 -- The extremes of a record's fragment are what its kind makes of those of its children. Assumes nothing.
-use Prim.Native.Nat.{ℕ, zero, suc, _+_, _<_, _≤_}
+use Prim.Native.Nat.{ℕ, zero, suc, _+_, _<_}
 use mathlib.Core.Bool.{Bool, true, false}
 use mathlib.Core.List.{List, [], _∷_, map}
-use mathlib.Core.Option.{Option, none, some}
+use mathlib.Core.Option.{Option}
 use mathlib.Core.Path.{_≡_, refl, sym, ap, _∙_}
 use native.Mathlib.Omega.{arith}
 use borrow.Author.Tests.{eqb-true}
 use lib.Dec.{eqb}
 use lib.ListN.{length, getD, take, length-map}
 use Rattle.records.specs.Payloads.{Payload, nothing, number, children, weighted, threshold, keys, kOf, countOf, keysOf, childrenOf}
-use Rattle.records.specs.RecordForm.{kindOf, fragmentPayload}
+use Rattle.records.specs.RecordForm.{kindOf}
 use Rattle.contexts.specs.declared.Context.{Context}
 use Rattle.contexts.specs.Leaves.{After, Older, Sha256, Hash256, Ripemd160, Hash160}
-use Rattle.trees.specs.Fragment.{Fragment, Fragments, end, _▹_, toList, False, True, PkK, PkH, Lock, Hash}
+use Rattle.trees.specs.Fragment.{Fragments, end, _▹_, toList, False, True, PkK, PkH, Lock, Hash}
 use Rattle.trees.specs.Fragment.{Alt, Swap, Check, DupIf, Verify, NonZero, ZeroNotEqual}
 use Rattle.trees.specs.Fragment.{AndB, AndV, OrB, OrD, OrC, OrI, AndOr, Thresh, Multi, MultiA}
 use Rattle.trees.specs.Tree.{find}
 use Rattle.walk.specs.TreeRecords.{recordAt, fragmentAt, TreeRecord}
-use Rattle.walk.specs.Heads.{Head, headOf, childrenIn, headWith, headIn}
+use Rattle.walk.specs.Heads.{Head, headOf, childrenIn, headWith}
 use Rattle.walk.specs.Folds.{ByChildren}
 use Rattle.walk.proofs.FoldLaws.{value-at}
 use Rattle.witness_ways.specs.declared.Both.{Both}
-use Rattle.witness_ways.specs.Extremes.{ways, byCount, extremes}
+use Rattle.witness_ways.specs.Extremes.{byCount, extremes}
 use Rattle.witness_rules.specs.ByKind.{counts, child, waysOf}
 use Rattle.witness_entry.specs.Memory.{bothIn}
 use Rattle.witness_entry.specs.Records.{waysWith, waysIn}

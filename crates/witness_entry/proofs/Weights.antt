@@ -2,15 +2,15 @@
 -- and there are at most 4,096. Assumes nothing.
 use Prim.Native.Nat.{ℕ, zero, suc, _+_, _*_, _≤_, _<_}
 use mathlib.Core.Bool.{Bool, true, false}
-use mathlib.Core.List.{List, [], _∷_}
+use mathlib.Core.List.{List}
 use mathlib.Core.Option.{Option, some}
-use mathlib.Core.Path.{_≡_, refl, sym, ap, _∙_}
+use mathlib.Core.Path.{_≡_, refl, ap, _∙_}
 use native.Mathlib.Omega.{arith}
 use borrow.Author.Tests.{leb-true, leb-false}
 use lib.Dec.{leb}
 use lib.ListN.{length}
-use Rattle.records.specs.Payloads.{Payload, nothing, number, children, weighted, threshold, keys, kOf, countOf, keysOf, childrenOf}
-use Rattle.records.specs.RecordForm.{kindOf, fragmentPayload}
+use Rattle.records.specs.Payloads.{Payload, nothing, number, children, weighted, threshold, keys, kOf, countOf, keysOf}
+use Rattle.records.specs.RecordForm.{kindOf}
 use Rattle.records.specs.Answers.{partsOf}
 use Rattle.records.proofs.Arities.{counts}
 use Rattle.contexts.specs.declared.Context.{Context}
@@ -18,15 +18,13 @@ use Rattle.contexts.specs.declared.Context.the-variants.{Segwitv0, Tap}
 use Rattle.trees.specs.Fragment.{Fragment, Fragments, end, _▹_, toList, False, True, PkK, PkH, Lock, Hash}
 use Rattle.trees.specs.Fragment.{Alt, Swap, Check, DupIf, Verify, NonZero, ZeroNotEqual}
 use Rattle.trees.specs.Fragment.{AndB, AndV, OrB, OrD, OrC, OrI, AndOr, Thresh, Multi, MultiA}
-use Rattle.trees.specs.Reading.{maxRecords}
 use Rattle.walk.specs.TreeRecords.{recordAt, fragmentAt, TreeRecord, TreeRecords}
-use Rattle.walk.specs.Heads.{Head, headOf, childrenIn, headWith, headIn}
+use Rattle.walk.specs.Heads.{Head, headOf, childrenIn, headWith}
 use Rattle.walk.specs.Folds.{every, overRecords, Gathers, OwnAndChildren}
 use Rattle.walk.proofs.Laws.{row-told}
 use Rattle.walk.proofs.KindLaws.{no-payload, number-payload, one-payload, two-payload, three-payload, threshold-bounds}
 use Rattle.walk.proofs.HeadLaws.{head-at}
 use Rattle.walk.proofs.FoldLaws.{part-of}
-use Rattle.witness_ways.specs.declared.Extremes.the-variants.{NoWay, Bytes}
 use Rattle.witness_ways.specs.Elements.{signatureBytes, keyBytes}
 use Rattle.witness_ways.specs.Extremes.{byCount, extremes}
 use Rattle.witness_rules.specs.Bounds.{Below, none, BothBelow}
@@ -113,6 +111,7 @@ signatures Tap k = omega arith
 module _ (c : Context) where
   mutual
     unfolding extremes byCount weight weights headOf
+
     below : (f : Fragment) → BothBelow (weight f) (extremes c f)
     below False = record { satisfied = none; dissatisfied = just-below 0 (omega arith) }
     below True = record { satisfied = just-below 0 (omega arith); dissatisfied = none }

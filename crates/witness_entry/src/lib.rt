@@ -2,13 +2,11 @@
 //
 // The entry's promise stands in specs/Witness.antt, and proofs/Determined.antt shows that it determines the outcome. The inner contracts cite
 // specs/Memory.antt (extremes in work memory) and specs/Records.antt (those of a record from those of its children).
-ghost use mathlib.Core.Option.{some};
 ghost use mathlib.Core.Path.{_≡_};
 ghost use Prim.Native.Nat.{ℕ, _+_, _*_, _≤_, _<_};
 ghost use lib.ListN.{length, getD};
 ghost use Rattle.contexts.specs.declared.Context.{Context};
 ghost use Rattle.trees.specs.Fragment.{Fragment};
-ghost use Rattle.trees.specs.TreeCheck.{contextOf};
 ghost use Rattle.walk.specs.TreeRecords.{TreeRecords, Written};
 ghost use Rattle.witness_ways.specs.Extremes.{sat, extremes};
 ghost use Rattle.witness_rules.specs.Bounds.{Below, BothBelow, small};

@@ -1,19 +1,16 @@
 -- Extremes below a bound: of their parts, of sums and of a choice. Assumes nothing.
-use Prim.Native.Nat.{ℕ, zero, suc, _+_, _*_, _≤_, _<_, min, max}
+use Prim.Native.Nat.{ℕ, _+_, _*_, _≤_, _<_, min, max}
 use mathlib.Core.Bool.{Bool, true, false, cond}
-use mathlib.Core.List.{List, [], _∷_}
-use mathlib.Core.Path.{_≡_, refl}
+use mathlib.Core.Path.{_≡_}
 use native.Mathlib.Omega.{arith}
 use lib.Dec.{leb}
-use lib.ListN.{length, getD}
 use Rattle.contexts.specs.declared.Context.{Context}
 use Rattle.contexts.specs.declared.Context.the-variants.{Segwitv0, Tap}
 use Rattle.witness_ways.specs.declared.Extremes.{Extremes}
 use Rattle.witness_ways.specs.declared.Extremes.the-variants.{NoWay, Bytes}
-use Rattle.witness_ways.specs.declared.Both.{Both}
 use Rattle.witness_ways.specs.Elements.{signatureBytes, keyBytes}
-use Rattle.witness_ways.specs.Extremes.{_and_, _or_, just, someOf, falseWays, noChild, oneMore}
-use Rattle.witness_rules.specs.Bounds.{Below, none, both, BothBelow, AllBelow, small, large}
+use Rattle.witness_ways.specs.Extremes.{_and_, _or_, just, someOf}
+use Rattle.witness_rules.specs.Bounds.{Below, none, both, small, large}
 
 -- ---- the parts
 

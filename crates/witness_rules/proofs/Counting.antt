@@ -9,10 +9,10 @@ use lib.Dec.{eqb, ltb}
 use lib.ListN.{length, getD, set, take, drop, replicate, length-set, length-drop, getD-replicate, drop-of-length-le, List·getD-eq-default}
 use lib.Seq.{getD-set-same, getD-set-other, length-take-le, drop-cons, getD-take, getD-drop}
 use Rattle.witness_ways.specs.declared.Extremes.{Extremes}
-use Rattle.witness_ways.specs.declared.Extremes.the-variants.{NoWay, Bytes}
+use Rattle.witness_ways.specs.declared.Extremes.the-variants.{NoWay}
 use Rattle.witness_ways.specs.declared.Both.{Both}
-use Rattle.witness_ways.specs.Extremes.{_and_, _or_, sat, dissat, just, ByCount, noChild, oneMore}
-use Rattle.witness_rules.specs.Bounds.{Below, none, both, BothBelow, neither, AllBelow, RowBelow, small, large}
+use Rattle.witness_ways.specs.Extremes.{_and_, _or_, sat, dissat, just}
+use Rattle.witness_rules.specs.Bounds.{Below, none, neither, AllBelow, RowBelow, small}
 use Rattle.witness_rules.specs.ByKind.{counts, countIn, oneMoreAt, Counted}
 use Rattle.witness_rules.proofs.Bounds.{looser, below-and, below-or, just-below}
 

@@ -133,7 +133,11 @@ fn pk_h(context: Context) -> Both
 fn some_of(k: u64, n: u64, bytes: u64) -> Extremes
     ensures { λ r. ⌜ r ≡ someOf k n bytes ⌝ }
 {
-    if k <= n { Extremes::Bytes(bytes, bytes) } else { Extremes::NoWay }
+    if k <= n {
+        Extremes::Bytes(bytes, bytes)
+    } else {
+        Extremes::NoWay
+    }
 }
 
 // How many of n are not among k.
@@ -294,10 +298,7 @@ fn branch(x: Extremes, z: Extremes) -> Extremes
     requires { ⌜ Below small x × Below small z ⌝ }
     ensures { λ r. ⌜ r ≡ ((x and just 2) or (z and just 1)) ⌝ }
 {
-    or(
-        and(x, Extremes::Bytes(2, 2)),
-        and(z, Extremes::Bytes(1, 1)),
-    )
+    or(and(x, Extremes::Bytes(2, 2)), and(z, Extremes::Bytes(1, 1)))
 }
 
 // OrI: either branch.

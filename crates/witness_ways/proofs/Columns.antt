@@ -1,9 +1,9 @@
 -- The satisfaction table as two columns of sets: a fragment's ways are what its row says of the ways of its children. Assumes nothing.
-use Prim.Native.Nat.{ℕ, zero, suc}
-use mathlib.Core.List.{List, [], _∷_, _++_}
+use Prim.Native.Nat.{suc}
+use mathlib.Core.List.{[], _∷_}
 use mathlib.Core.Logic.{_⊎_, inl, inr}
 use lib.ListN.{length, replicate}
-use Rattle.trees.specs.Fragment.{Fragment, Fragments, end, _▹_, False, True, PkK, PkH, Lock, Hash}
+use Rattle.trees.specs.Fragment.{Fragment, False, True, PkK, PkH, Lock, Hash}
 use Rattle.trees.specs.Fragment.{Alt, Swap, Check, DupIf, Verify, NonZero, ZeroNotEqual}
 use Rattle.trees.specs.Fragment.{AndB, AndV, OrB, OrD, OrC, OrI, AndOr, Thresh, Multi, MultiA}
 use Rattle.witness_ways.specs.Elements.{Witness, signature, key, preimage, empty, one}

@@ -2,18 +2,17 @@
 use Prim.Native.Nat.{ℕ, zero, suc, _+_, _*_, _-_, _≤_}
 use mathlib.Core.Bool.{Bool, true, false, cond}
 use mathlib.Core.List.{List, [], _∷_, _++_}
-use mathlib.Core.Path.{_≡_, refl, sym, ap, _∙_}
+use mathlib.Core.Path.{_≡_, refl}
 use native.Mathlib.Omega.{arith}
 use borrow.Author.Tests.{leb-true, leb-false}
 use lib.Dec.{leb}
 use lib.ListN.{length, replicate}
 use Rattle.contexts.specs.declared.Context.{Context}
 use Rattle.contexts.specs.Lists.{sum}
-use Rattle.witness_ways.specs.declared.Extremes.{Extremes}
-use Rattle.witness_ways.specs.declared.Extremes.the-variants.{NoWay, Bytes}
+use Rattle.witness_ways.specs.declared.Extremes.the-variants.{NoWay}
 use Rattle.witness_ways.specs.Elements.{Witness, signatureBytes, signature, empty, bytesOf}
 use Rattle.witness_ways.specs.Ways.{Picked, all-picked, pick, pass, Placed, all-placed, signed, unsigned}
-use Rattle.witness_ways.specs.Spends.{Met, Within}
+use Rattle.witness_ways.specs.Spends.{Met}
 use Rattle.witness_ways.specs.Extremes.{just, someOf, Spans, no-way, spans}
 use Rattle.witness_ways.proofs.Spans.{bytes-append}
 

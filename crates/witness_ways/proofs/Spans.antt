@@ -1,8 +1,8 @@
 -- What is known of the extremes of some ways carries over to their sums, their unions and their images. Assumes nothing.
 use Prim.Native.Nat.{ℕ, _+_, _≤_, min, max}
-use mathlib.Core.List.{List, [], _∷_, _++_}
+use mathlib.Core.List.{[], _∷_, _++_}
 use mathlib.Core.Logic.{_⊎_, inl, inr}
-use mathlib.Core.Path.{_≡_, refl, sym, ap, subst, _∙_}
+use mathlib.Core.Path.{_≡_, refl, _∙_}
 use mathlib.Core.Bool.{Bool, true, false}
 use native.Mathlib.Omega.{arith}
 use borrow.Author.Tests.{leb-true, leb-false}
@@ -10,9 +10,8 @@ use lib.Dec.{leb}
 use Rattle.contexts.specs.declared.Context.{Context}
 use Rattle.contexts.specs.Lists.{sum}
 use Rattle.witness_ways.specs.declared.Extremes.{Extremes}
-use Rattle.witness_ways.specs.declared.Extremes.the-variants.{NoWay, Bytes}
-use Rattle.witness_ways.specs.Elements.{Witness, elementBytes, bytesOf}
-use Rattle.witness_ways.specs.Spends.{Met, Within}
+use Rattle.witness_ways.specs.Elements.{Witness, bytesOf}
+use Rattle.witness_ways.specs.Spends.{Met}
 use Rattle.witness_ways.specs.Extremes.{just, _and_, _or_, Spans, no-way, spans}
 
 pub bytes-append : (c : Context) (w v : Witness) → bytesOf c (w ++ v) ≡ bytesOf c w + bytesOf c v

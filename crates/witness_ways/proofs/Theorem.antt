@@ -1,22 +1,19 @@
 -- What is computed is what is asked: specs/Extremes.antt. Assumes nothing.
-use Prim.Native.Nat.{ℕ, zero, suc, _+_, _*_}
-use mathlib.Core.Bool.{Bool, true, false, cond}
-use mathlib.Core.List.{List, [], _∷_}
+use Prim.Native.Nat.{ℕ, zero, suc}
+use mathlib.Core.List.{[], _∷_}
 use mathlib.Core.Logic.{inl, inr}
 use mathlib.Core.Path.{_≡_, refl}
 use native.Mathlib.Omega.{arith}
-use lib.Dec.{leb}
-use lib.ListN.{length, replicate}
+use lib.ListN.{length}
 use Rattle.contexts.specs.declared.Context.{Context}
-use Rattle.contexts.specs.declared.Context.the-variants.{Segwitv0, Tap}
 use Rattle.contexts.specs.Lists.{sum}
 use Rattle.trees.specs.Fragment.{Fragment, Fragments, end, _▹_, False, True, PkK, PkH, Lock, Hash}
 use Rattle.trees.specs.Fragment.{Alt, Swap, Check, DupIf, Verify, NonZero, ZeroNotEqual}
 use Rattle.trees.specs.Fragment.{AndB, AndV, OrB, OrD, OrC, OrI, AndOr, Thresh, Multi, MultiA}
 use Rattle.witness_ways.specs.declared.Extremes.{Extremes}
 use Rattle.witness_ways.specs.declared.Extremes.the-variants.{NoWay, Bytes}
-use Rattle.witness_ways.specs.Elements.{Witness, signatureBytes, bytesOf, signature, key, preimage, empty, one}
-use Rattle.witness_ways.specs.Ways.{Satisfies, Dissatisfies, Exactly, Picked, no-child, sat-child, dissat-child}
+use Rattle.witness_ways.specs.Elements.{Witness, empty, one}
+use Rattle.witness_ways.specs.Ways.{Satisfies, Dissatisfies, Exactly, no-child, sat-child, dissat-child}
 use Rattle.witness_ways.specs.Spends.{Within, Spends, none, some}
 use Rattle.witness_ways.specs.Extremes.{just, _and_, sat, dissat, noChild, oneMore, byCount, extremes, Spans, no-way, spans, ExtremesMet, foundIn, smallestIn, largestIn}
 use Rattle.witness_ways.proofs.Spans.{Joined, joined, Only, only, map-spans, only-spans, and-spans, or-spans}
@@ -80,6 +77,7 @@ module _ (c : Context) where
 
   mutual
     unfolding extremes byCount sum
+
     pub extremes-met : (f : Fragment) → ExtremesMet c f
     extremes-met False = by-columns False empty-way nothing-at-all
     extremes-met True = by-columns True nothing-at-all empty-way

@@ -1,6 +1,6 @@
 -- The ways to satisfy and to dissatisfy a fragment: BIP 379's satisfaction table, row by row, without the ways in brackets, which it
 -- marks as malleable or needless. `w ++ v` has v on top: v is the witness of the fragment that comes first in the script.
-use Prim.Native.Nat.{ℕ, zero, suc}
+use Prim.Native.Nat.{ℕ, suc}
 use mathlib.Core.List.{List, [], _∷_, _++_}
 use lib.ListN.{length, replicate}
 use Rattle.contexts.specs.Leaves.{LockKind, HashKind}

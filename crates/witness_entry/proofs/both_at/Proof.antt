@@ -2,9 +2,6 @@ use Rattle.witness_entry.specs.Memory.{bothIn}
 use borrow.Author.Needs.{needs}
 use Rattle.witness_entry.proofs.both_at.Statement.{statement}
 use Rattle.witness_entry.proofs.both_at.Tie as tie
-use Rattle.witness_entry.proofs.both_at.Reads as reads
-use Rattle.witness_entry.proofs.both_at.Lts as lts
-use Rattle.witness_entry.proofs.extremes_in.Reads as extremes-in-reads
 
 mul-extremes-in : tie.Need-mul-extremes-in
 mul-extremes-in c = search needs

@@ -2,11 +2,6 @@ use Rattle.witness_entry.proofs.Promised.{of-length, of-other-length}
 use borrow.Author.Needs.{needs}
 use Rattle.witness_entry.proofs.claspwillow_witness.Statement.{statement}
 use Rattle.witness_entry.proofs.claspwillow_witness.Tie as tie
-use Rattle.witness_entry.proofs.claspwillow_witness.Reads as reads
-use Rattle.witness_entry.proofs.claspwillow_witness.Lts as lts
-use Rattle.witness_entry.proofs.witness_checked.Reads as witness-checked-reads
-use Rattle.witness_entry.proofs.wrong_length.Reads as wrong-length-reads
-use Rattle.words.proofs.clear.Reads as clear-reads
 
 witness-checked-requires : tie.Need-witness-checked-requires
 witness-checked-requires c κs = search needs

@@ -4,8 +4,6 @@ use Rattle.witness_entry.proofs.Memory.{not-zero, word-few}
 use borrow.Author.Needs.{needs}
 use Rattle.witness_entry.proofs.extremes_in.Statement.{statement}
 use Rattle.witness_entry.proofs.extremes_in.Tie as tie
-use Rattle.witness_entry.proofs.extremes_in.Reads as reads
-use Rattle.witness_entry.proofs.extremes_in.Lts as lts
 
 returns : tie.Need-returns
 returns c = (rw (c .if1 .taken), none)

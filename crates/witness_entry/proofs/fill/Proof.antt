@@ -4,14 +4,8 @@ use lib.ListN.{length}
 use Rattle.witness_entry.proofs.Filling.{FillOn, fill-begins, some-left, ends-inside, ends-later, stands, ways-small, fill-more, fill-ends}
 use Rattle.witness_entry.proofs.Memory.{put-length}
 use native.Mathlib.Omega.{arith}
-use lib.ListN.{length-set}
 use Rattle.witness_entry.proofs.fill.Statement.{statement}
 use Rattle.witness_entry.proofs.fill.Tie as tie
-use Rattle.witness_entry.proofs.fill.Reads as reads
-use Rattle.witness_entry.proofs.fill.Lts as lts
-use Rattle.walk.proofs.record_end.Reads as record-end-reads
-use Rattle.witness_entry.proofs.put_both.Reads as put-both-reads
-use Rattle.witness_entry.proofs.ways_in.Reads as ways-in-reads
 
 abbrev Inv-loop : tie.InvT-loop
 Inv-loop context tree work₀ at₀ count₀ work at count = FillOn context tree work at count × (length work ≡ length work₀)

@@ -1,8 +1,6 @@
 use borrow.Author.Needs.{needs}
 use Rattle.witness_entry.proofs.given_of.Statement.{statement}
 use Rattle.witness_entry.proofs.given_of.Tie as tie
-use Rattle.witness_entry.proofs.given_of.Reads as reads
-use Rattle.witness_entry.proofs.given_of.Lts as lts
 
 enum-told : tie.Need-enum-told
 enum-told c = search needs

@@ -2,14 +2,10 @@ use Prim.Native.Nat.{_-_, _≤_}
 use native.Mathlib.Omega.{arith}
 use borrow.Author.Needs.{needs}
 use mathlib.Core.Path.{_≡_}
-use lib.ListN.{length}
 use Rattle.witness_entry.specs.Memory.{Loaded}
 use Rattle.witness_entry.proofs.Memory.{load-start, load-more}
 use Rattle.witness_entry.proofs.load.Statement.{statement}
 use Rattle.witness_entry.proofs.load.Tie as tie
-use Rattle.witness_entry.proofs.load.Reads as reads
-use Rattle.witness_entry.proofs.load.Lts as lts
-use Rattle.witness_entry.proofs.both_at.Reads as both-at-reads
 
 abbrev Inv-loop : tie.InvT-loop
 Inv-loop work n numbers out₀ j₀ out j = Loaded work numbers j out × (j ≤ n)

@@ -2,9 +2,6 @@ use Rattle.witness_entry.specs.Memory.{putBoth}
 use borrow.Author.Needs.{needs}
 use Rattle.witness_entry.proofs.put_both.Statement.{statement}
 use Rattle.witness_entry.proofs.put_both.Tie as tie
-use Rattle.witness_entry.proofs.put_both.Reads as reads
-use Rattle.witness_entry.proofs.put_both.Lts as lts
-use Rattle.witness_entry.proofs.word_of.Reads as word-of-reads
 
 word-of-requires : tie.Need-word-of-requires
 word-of-requires c κs = search needs

@@ -3,10 +3,6 @@ use Rattle.witness_entry.proofs.Promised.{root-inside, root-is}
 use borrow.Author.Needs.{needs}
 use Rattle.witness_entry.proofs.root_extremes.Statement.{statement}
 use Rattle.witness_entry.proofs.root_extremes.Tie as tie
-use Rattle.witness_entry.proofs.root_extremes.Reads as reads
-use Rattle.witness_entry.proofs.root_extremes.Lts as lts
-use Rattle.witness_entry.proofs.both_at.Reads as both-at-reads
-use Rattle.witness_entry.proofs.fill.Reads as fill-reads
 
 fill-requires : tie.Need-fill-requires
 fill-requires c κs = search needs

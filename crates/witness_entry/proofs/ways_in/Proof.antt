@@ -2,13 +2,6 @@ use Rattle.witness_entry.proofs.Filling.{few-loaded, few-counted, child
 use borrow.Author.Needs.{needs}
 use Rattle.witness_entry.proofs.ways_in.Statement.{statement}
 use Rattle.witness_entry.proofs.ways_in.Tie as tie
-use Rattle.witness_entry.proofs.ways_in.Reads as reads
-use Rattle.witness_entry.proofs.ways_in.Lts as lts
-use Rattle.records.proofs.arity.Reads as arity-reads
-use Rattle.records.proofs.fragment_parts.Reads as fragment-parts-reads
-use Rattle.records.proofs.kind_of.Reads as kind-of-reads
-use Rattle.witness_entry.proofs.load.Reads as load-reads
-use Rattle.witness_rules.proofs.ways_of.Reads as ways-of-reads
 
 fragment-parts-requires : tie.Need-fragment-parts-requires
 fragment-parts-requires c κs = search needs

@@ -5,12 +5,6 @@ use Rattle.witness_entry.proofs.Promised.{first-long, joined-long, tree
 use borrow.Author.Needs.{needs}
 use Rattle.witness_entry.proofs.witness_checked.Statement.{statement}
 use Rattle.witness_entry.proofs.witness_checked.Tie as tie
-use Rattle.witness_entry.proofs.witness_checked.Reads as reads
-use Rattle.witness_entry.proofs.witness_checked.Lts as lts
-use Rattle.claspwillow.proofs.claspwillow_check.Reads as claspwillow-check-reads
-use Rattle.claspwillow.proofs.context_of.Reads as context-of-reads
-use Rattle.witness_entry.proofs.given_of.Reads as given-of-reads
-use Rattle.witness_entry.proofs.root_extremes.Reads as root-extremes-reads
 
 sub-claspwillow-check : tie.Need-sub-claspwillow-check
 sub-claspwillow-check c = search needs

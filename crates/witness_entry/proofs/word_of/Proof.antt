@@ -3,8 +3,6 @@ use Rattle.witness_rules.proofs.Bounds.{both-parts}
 use borrow.Author.Needs.{needs}
 use Rattle.witness_entry.proofs.word_of.Statement.{statement}
 use Rattle.witness_entry.proofs.word_of.Tie as tie
-use Rattle.witness_entry.proofs.word_of.Reads as reads
-use Rattle.witness_entry.proofs.word_of.Lts as lts
 
 enum-told : tie.Need-enum-told
 enum-told c = search needs

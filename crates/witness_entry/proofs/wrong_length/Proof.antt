@@ -1,8 +1,6 @@
 use borrow.Author.Tests.{ne-eqb}
 use Rattle.witness_entry.proofs.wrong_length.Statement.{statement}
 use Rattle.witness_entry.proofs.wrong_length.Tie as tie
-use Rattle.witness_entry.proofs.wrong_length.Reads as reads
-use Rattle.witness_entry.proofs.wrong_length.Lts as lts
 
 returns : tie.Need-returns
 returns c = rw (c .match .keys1)

@@ -3,8 +3,6 @@ use Rattle.witness_rules.proofs.Bounds.{both-parts}
 use borrow.Author.Needs.{needs}
 use Rattle.witness_rules.proofs.and.Statement.{statement}
 use Rattle.witness_rules.proofs.and.Tie as tie
-use Rattle.witness_rules.proofs.and.Reads as reads
-use Rattle.witness_rules.proofs.and.Lts as lts
 
 enum-told : tie.Need-enum-told
 enum-told c = search needs

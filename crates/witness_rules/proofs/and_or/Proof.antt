@@ -2,10 +2,6 @@ use Rattle.witness_rules.proofs.Bounds.{loose}
 use borrow.Author.Needs.{needs}
 use Rattle.witness_rules.proofs.and_or.Statement.{statement}
 use Rattle.witness_rules.proofs.and_or.Tie as tie
-use Rattle.witness_rules.proofs.and_or.Reads as reads
-use Rattle.witness_rules.proofs.and_or.Lts as lts
-use Rattle.witness_rules.proofs.and.Reads as and-reads
-use Rattle.witness_rules.proofs.or.Reads as or-reads
 
 and-requires : tie.Need-and-requires
 and-requires c κs = (loose (c .pre .1 .satisfied), loose (c .pre .0 .satisfied))

@@ -3,16 +3,12 @@ use Rattle.witness_rules.proofs.Bounds.{loose, just-below}
 use borrow.Author.Needs.{needs}
 use Rattle.witness_rules.proofs.branch.Statement.{statement}
 use Rattle.witness_rules.proofs.branch.Tie as tie
-use Rattle.witness_rules.proofs.branch.Reads as reads
-use Rattle.witness_rules.proofs.branch.Lts as lts
-use Rattle.witness_rules.proofs.and.Reads as and-reads
-use Rattle.witness_rules.proofs.or.Reads as or-reads
 
 and-requires : tie.Need-and-requires
-and-requires c κs = (loose (c .pre .0), just-below 2 (omega arith))
+and-requires c κs = (loose (c .pre .0), just-below _ (omega arith))
 
 and-requires-2 : tie.Need-and-requires-2
-and-requires-2 c κs = (loose (c .before .pre .1), just-below 1 (omega arith))
+and-requires-2 c κs = (loose (c .before .pre .1), just-below _ (omega arith))
 
 or-requires : tie.Need-or-requires
 or-requires c κs = search needs

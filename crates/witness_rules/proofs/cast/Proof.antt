@@ -4,9 +4,6 @@ use Rattle.trees.specs.Tree.{find}
 use Rattle.witness_rules.proofs.Bounds.{loose, just-below}
 use Rattle.witness_rules.proofs.cast.Statement.{statement}
 use Rattle.witness_rules.proofs.cast.Tie as tie
-use Rattle.witness_rules.proofs.cast.Reads as reads
-use Rattle.witness_rules.proofs.cast.Lts as lts
-use Rattle.witness_rules.proofs.and.Reads as and-reads
 
 and-requires : tie.Need-and-requires
 and-requires c κs = (loose (c .before .pre .satisfied), just-below 2 (omega arith))

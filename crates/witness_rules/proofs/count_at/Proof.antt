@@ -5,8 +5,6 @@ use Rattle.witness_ways.specs.declared.Extremes.the-variants.{NoWay}
 use borrow.Author.Needs.{needs}
 use Rattle.witness_rules.proofs.count_at.Statement.{statement}
 use Rattle.witness_rules.proofs.count_at.Tie as tie
-use Rattle.witness_rules.proofs.count_at.Reads as reads
-use Rattle.witness_rules.proofs.count_at.Lts as lts
 
 mul-result : tie.Need-mul-result
 mul-result c = search needs

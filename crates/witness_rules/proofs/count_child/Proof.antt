@@ -8,10 +8,6 @@ use native.Mathlib.Omega.{arith}
 use Rattle.witness_rules.proofs.Counting.{CountingOn}
 use Rattle.witness_rules.proofs.count_child.Statement.{statement}
 use Rattle.witness_rules.proofs.count_child.Tie as tie
-use Rattle.witness_rules.proofs.count_child.Reads as reads
-use Rattle.witness_rules.proofs.count_child.Lts as lts
-use Rattle.witness_rules.proofs.and.Reads as and-reads
-use Rattle.witness_rules.proofs.one_more.Reads as one-more-reads
 
 abbrev Inv-loop : tie.InvT-loop
 Inv-loop x row out₀ j₀ out j = CountingOn x row out j

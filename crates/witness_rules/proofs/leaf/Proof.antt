@@ -3,15 +3,6 @@ use Rattle.trees.specs.Tree.{find}
 use borrow.Author.Needs.{needs}
 use Rattle.witness_rules.proofs.leaf.Statement.{statement}
 use Rattle.witness_rules.proofs.leaf.Tie as tie
-use Rattle.witness_rules.proofs.leaf.Reads as reads
-use Rattle.witness_rules.proofs.leaf.Lts as lts
-use Rattle.witness_rules.proofs.hash.Reads as hash-reads
-use Rattle.witness_rules.proofs.multi.Reads as multi-reads
-use Rattle.witness_rules.proofs.multi_a.Reads as multi-a-reads
-use Rattle.witness_rules.proofs.of_false.Reads as of-false-reads
-use Rattle.witness_rules.proofs.of_true.Reads as of-true-reads
-use Rattle.witness_rules.proofs.pk_h.Reads as pk-h-reads
-use Rattle.witness_rules.proofs.pk_k.Reads as pk-k-reads
 
 of-false-requires : tie.Need-of-false-requires
 of-false-requires c κs = search needs

@@ -3,11 +3,6 @@ use Rattle.witness_rules.proofs.Bounds.{signatures-few}
 use borrow.Author.Needs.{needs}
 use Rattle.witness_rules.proofs.multi_a.Statement.{statement}
 use Rattle.witness_rules.proofs.multi_a.Tie as tie
-use Rattle.witness_rules.proofs.multi_a.Reads as reads
-use Rattle.witness_rules.proofs.multi_a.Lts as lts
-use Rattle.witness_rules.proofs.others.Reads as others-reads
-use Rattle.witness_rules.proofs.signature_bytes.Reads as signature-bytes-reads
-use Rattle.witness_rules.proofs.some_of.Reads as some-of-reads
 
 signature-bytes-requires : tie.Need-signature-bytes-requires
 signature-bytes-requires c κs = search needs

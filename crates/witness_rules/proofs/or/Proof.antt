@@ -1,10 +1,6 @@
 use borrow.Author.Needs.{needs}
 use Rattle.witness_rules.proofs.or.Statement.{statement}
 use Rattle.witness_rules.proofs.or.Tie as tie
-use Rattle.witness_rules.proofs.or.Reads as reads
-use Rattle.witness_rules.proofs.or.Lts as lts
-use Rattle.witness_rules.proofs.greater.Reads as greater-reads
-use Rattle.witness_rules.proofs.lesser.Reads as lesser-reads
 
 enum-told : tie.Need-enum-told
 enum-told c = search needs

@@ -1,9 +1,6 @@
 use borrow.Author.Needs.{needs}
 use Rattle.witness_rules.proofs.or_c.Statement.{statement}
 use Rattle.witness_rules.proofs.or_c.Tie as tie
-use Rattle.witness_rules.proofs.or_c.Reads as reads
-use Rattle.witness_rules.proofs.or_c.Lts as lts
-use Rattle.witness_rules.proofs.or_else.Reads as or-else-reads
 
 or-else-requires : tie.Need-or-else-requires
 or-else-requires c κs = search needs

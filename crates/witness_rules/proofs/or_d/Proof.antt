@@ -2,10 +2,6 @@ use Rattle.witness_rules.proofs.Bounds.{loose}
 use borrow.Author.Needs.{needs}
 use Rattle.witness_rules.proofs.or_d.Statement.{statement}
 use Rattle.witness_rules.proofs.or_d.Tie as tie
-use Rattle.witness_rules.proofs.or_d.Reads as reads
-use Rattle.witness_rules.proofs.or_d.Lts as lts
-use Rattle.witness_rules.proofs.and.Reads as and-reads
-use Rattle.witness_rules.proofs.or_else.Reads as or-else-reads
 
 or-else-requires : tie.Need-or-else-requires
 or-else-requires c κs = search needs

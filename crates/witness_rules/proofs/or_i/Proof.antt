@@ -1,9 +1,6 @@
 use borrow.Author.Needs.{needs}
 use Rattle.witness_rules.proofs.or_i.Statement.{statement}
 use Rattle.witness_rules.proofs.or_i.Tie as tie
-use Rattle.witness_rules.proofs.or_i.Reads as reads
-use Rattle.witness_rules.proofs.or_i.Lts as lts
-use Rattle.witness_rules.proofs.branch.Reads as branch-reads
 
 branch-requires : tie.Need-branch-requires
 branch-requires c κs = search needs

@@ -3,14 +3,6 @@ use Rattle.trees.specs.Tree.{find}
 use borrow.Author.Needs.{needs}
 use Rattle.witness_rules.proofs.pair.Statement.{statement}
 use Rattle.witness_rules.proofs.pair.Tie as tie
-use Rattle.witness_rules.proofs.pair.Reads as reads
-use Rattle.witness_rules.proofs.pair.Lts as lts
-use Rattle.witness_rules.proofs.and_b.Reads as and-b-reads
-use Rattle.witness_rules.proofs.and_v.Reads as and-v-reads
-use Rattle.witness_rules.proofs.or_b.Reads as or-b-reads
-use Rattle.witness_rules.proofs.or_c.Reads as or-c-reads
-use Rattle.witness_rules.proofs.or_d.Reads as or-d-reads
-use Rattle.witness_rules.proofs.or_i.Reads as or-i-reads
 
 and-b-requires : tie.Need-and-b-requires
 and-b-requires c κs = search needs

@@ -3,10 +3,6 @@ use Rattle.witness_rules.proofs.Bounds.{signature-few, key-few}
 use borrow.Author.Needs.{needs}
 use Rattle.witness_rules.proofs.pk_h.Statement.{statement}
 use Rattle.witness_rules.proofs.pk_h.Tie as tie
-use Rattle.witness_rules.proofs.pk_h.Reads as reads
-use Rattle.witness_rules.proofs.pk_h.Lts as lts
-use Rattle.witness_rules.proofs.key_bytes.Reads as key-bytes-reads
-use Rattle.witness_rules.proofs.signature_bytes.Reads as signature-bytes-reads
 
 key-bytes-requires : tie.Need-key-bytes-requires
 key-bytes-requires c κs = search needs

@@ -1,9 +1,6 @@
 use borrow.Author.Needs.{needs}
 use Rattle.witness_rules.proofs.pk_k.Statement.{statement}
 use Rattle.witness_rules.proofs.pk_k.Tie as tie
-use Rattle.witness_rules.proofs.pk_k.Reads as reads
-use Rattle.witness_rules.proofs.pk_k.Lts as lts
-use Rattle.witness_rules.proofs.signature_bytes.Reads as signature-bytes-reads
 
 signature-bytes-requires : tie.Need-signature-bytes-requires
 signature-bytes-requires c κs = search needs

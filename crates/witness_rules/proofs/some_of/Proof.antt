@@ -1,8 +1,6 @@
 use borrow.Author.Tests.{le-leb, lt-leb}
 use Rattle.witness_rules.proofs.some_of.Statement.{statement}
 use Rattle.witness_rules.proofs.some_of.Tie as tie
-use Rattle.witness_rules.proofs.some_of.Reads as reads
-use Rattle.witness_rules.proofs.some_of.Lts as lts
 
 returns : tie.Need-returns
 returns c = simp (le-leb _ _ (c .if1 .taken))

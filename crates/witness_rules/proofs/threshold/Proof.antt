@@ -6,10 +6,6 @@ use lib.ListN.{length}
 use Rattle.witness_rules.proofs.Counting.{CountedFrom, from-none, from-fits, from-more, from-all}
 use Rattle.witness_rules.proofs.threshold.Statement.{statement}
 use Rattle.witness_rules.proofs.threshold.Tie as tie
-use Rattle.witness_rules.proofs.threshold.Reads as reads
-use Rattle.witness_rules.proofs.threshold.Lts as lts
-use Rattle.witness_rules.proofs.count_at.Reads as count-at-reads
-use Rattle.witness_rules.proofs.count_child.Reads as count-child-reads
 
 abbrev Inv-loop : tie.InvT-loop
 Inv-loop k n children row₀ i₀ row i = CountedFrom n children row i
@@ -21,7 +17,7 @@ array-set-from-row : tie.Need-array-set-from-row Inv-loop μ-loop
 array-set-from-row c = search needs
 
 loop-holds : tie.Need-loop-holds Inv-loop μ-loop
-loop-holds c = let len : length (c .args .t3) ≡ 16 = search needs in from-none (c .args .n) (c .args .t3) (c .pre .0) len 
+loop-holds c = let len : length (c .args .t3) ≡ 16 = search needs in from-none (c .args .n) (c .args .t3) (c .pre .0) len
 
 sub-i : tie.Need-sub-i Inv-loop μ-loop
 sub-i c = omega arith

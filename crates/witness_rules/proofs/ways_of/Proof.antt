@@ -6,13 +6,6 @@ use Rattle.witness_rules.proofs.Ranges.{of-cast, of-pair, of-and-or, of
 use borrow.Author.Needs.{needs}
 use Rattle.witness_rules.proofs.ways_of.Statement.{statement}
 use Rattle.witness_rules.proofs.ways_of.Tie as tie
-use Rattle.witness_rules.proofs.ways_of.Reads as reads
-use Rattle.witness_rules.proofs.ways_of.Lts as lts
-use Rattle.witness_rules.proofs.and_or.Reads as and-or-reads
-use Rattle.witness_rules.proofs.cast.Reads as cast-reads
-use Rattle.witness_rules.proofs.leaf.Reads as leaf-reads
-use Rattle.witness_rules.proofs.pair.Reads as pair-reads
-use Rattle.witness_rules.proofs.threshold.Reads as threshold-reads
 
 array-copy-out-x : tie.Need-array-copy-out-x
 array-copy-out-x c = search needs

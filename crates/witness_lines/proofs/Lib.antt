@@ -1,0 +1,3 @@
+-- Why the readings and the lines are right.
+pub mod Lines
+pub mod Blocks

@@ -1,0 +1,3 @@
+-- Why what is reported is right.
+pub mod Outcomes
+pub mod Lists

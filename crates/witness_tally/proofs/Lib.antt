@@ -1,0 +1,2 @@
+-- Why the counts and sums are right.
+pub mod Tallies
