@@ -16,3 +16,4 @@ pub mod NothingBetter
 pub mod AsBefore
 pub mod Before
 pub mod Bodies
+pub mod Settling

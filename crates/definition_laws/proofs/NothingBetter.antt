@@ -77,7 +77,7 @@ some-map : {P Q : Candidate → Type 0} {t : Table} → ((x : Candidate) → P x
 some-map f (here {x} h) = here (f x h)
 some-map f (later h) = later (some-map f h)
 
-some-found : (q : Candidate → Bool) (t : Table) → any q t ≡ true → Some (λ x. q x ≡ true) t
+pub some-found : (q : Candidate → Bool) (t : Table) → any q t ≡ true → Some (λ x. q x ≡ true) t
 unfolding any
 some-found q [] h = absurd (true≢false (sym h))
 some-found q (x ∷ xs) h = by-test (q x) refl h (some-found q xs)
@@ -147,7 +147,7 @@ done-same : {A : Type 0} {a b : A} {s s′ : State} → done a s ≡ done b s′
 done-same h = cc
 
 -- what an offer leaves of a table
-data Left (c : Context) (p : Probs) (x : Candidate) (t : Table) : Table → Type 0 where
+pub data Left (c : Context) (p : Probs) (x : Candidate) (t : Table) : Table → Type 0 where
   unworthy : worthwhile c x ≡ false → Left c p x t t
   beaten : any (λ e. beats p e x) t ≡ true → Left c p x t t
   enters : isPrice (costAt p x) ≡ true → any (λ e. beats p e x) t ≡ false → Left c p x t (enter x (unbeaten p x t))
@@ -185,7 +185,7 @@ module _ (c : Context) (p : Probs) (x : Candidate) (t : Table) (s s′ : State) 
       by-worth false w = leaves (insert-unworthy c p x t s w) (unworthy w)
 
 -- some entry is a subtype of a candidate at the same or a lower cost
-abbrev Met : Probs → Candidate → Table → Type 0
+abbrev pub Met : Probs → Candidate → Table → Type 0
 Met p y t = Some (λ e. beats p e y ≡ true) t
 
 -- the costs of all entries can be compared, and none beats another
@@ -205,7 +205,7 @@ module _ {c : Context} {p : Probs} {x : Candidate} where
   }
 
   -- what an entry met is met still: by the same entry, or by the one that it was dropped for
-  left-met : {t u : Table} → Left c p x t u → (y : Candidate) → Met p y t → Met p y u
+  pub left-met : {t u : Table} → Left c p x t u → (y : Candidate) → Met p y t → Met p y u
   left-met (unworthy w) y h = h
   left-met (beaten b) y h = h
   left-met (enters i a) y h =
@@ -215,7 +215,7 @@ module _ {c : Context} {p : Probs} {x : Candidate} where
       dropped (here {x = e} k) = beats-trans p x e y (not-false _ (k .1)) (k .0)
       dropped (later k) = dropped k
 
-  left-offered : {t u : Table} → Left c p x t u → worthwhile c x ≡ true → Met p x u
+  pub left-offered : {t u : Table} → Left c p x t u → worthwhile c x ≡ true → Met p x u
   left-offered (unworthy w) h = absurd (true≢false (sym h ∙ w))
   left-offered {t} (beaten b) h = some-found _ t b
   left-offered (enters i a) h = some-entered x _ (beats-self p x i)

@@ -4,5 +4,6 @@ pub mod Laws
 pub mod Before
 pub mod Bodies
 pub mod NothingBetter
+pub mod Settled
 pub mod Believing
 pub mod Heights

@@ -21,6 +21,7 @@ use Rattle.types.specs.declared.Unpacked.{Unpacked}
 use Rattle.types.specs.declared.Unpacked.the-variants.{Is, NotAType}
 use Rattle.types.specs.TypeOrder.{unpack}
 use Rattle.types.specs.TypeRules as type
+use Rattle.nodes.specs.declared.Head.{Head}
 
 -- ---- a candidate as words
 
@@ -121,6 +122,18 @@ candidateIn shape script witness stack witness₀ stack₀ sat dissat =
       third = shape / 0x40_0000_0000 % 0x1_0000;
       ty = typeIn shape;
       ext = extIn script witness stack witness₀ stack₀;
+      cost = costIn script sat dissat;
+    }
+
+-- what a table compares of a candidate besides its type
+abbrev pub headOf : Candidate → Head
+headOf x = record { «free_verify» = x .ext .«has_free_verify»; «pk_cost» = x .ext .«pk_cost»; cost = x .cost }
+
+abbrev pub headIn : (script sat dissat : ℕ) → Head
+headIn script sat dissat =
+    record {
+      «free_verify» = eqb (script / 0x1000_0000_0000_0000 % 2) 1;
+      «pk_cost» = script % 0x40_0000;
       cost = costIn script sat dissat;
     }
 

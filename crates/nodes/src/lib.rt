@@ -9,7 +9,7 @@ ghost use lib.ListN.{length};
 ghost use lib.Seq.{sets};
 ghost use Rattle.contexts.specs.Bools.{boolRank};
 ghost use Rattle.memory.specs.Layout.{workWords, maxRows, nodeCount, rowCount};
-ghost use Rattle.nodes.specs.Words.{typeIn, satIn, dissatIn, extIn, costIn, candidateIn, nodeAt, rowChild};
+ghost use Rattle.nodes.specs.Words.{typeIn, satIn, dissatIn, extIn, costIn, candidateIn, headIn, headOf, nodeAt, rowChild};
 ghost use Rattle.nodes.specs.Words.{hasSat, hasDissatCost, scriptWord, witnessWord, stackWord};
 ghost use Rattle.nodes.specs.Answers.{Holds, Fresh, Adds, OneRow, Begun};
 ghost use Rattle.nodes.specs.Stored.{FitSat, FitExt, ShapeIs, FloatIs, DissatIs, WordsAre, FourIs, RowWordIs, RowWordsAre};
@@ -147,6 +147,46 @@ pub fn node(work: &[u64], i: u16) -> Candidate
         work[at + 14],
         work[at + 15],
     )
+}
+
+// What a table compares of a node besides its type: whether verifying it is free, the bytes of its script, and its cost.
+pub struct Head {
+    pub free_verify: bool,
+    pub pk_cost: u32,
+    pub cost: Cost,
+}
+
+// The head of a node's words.
+fn head_in(script: u64, sat: u64, dissat: u64) -> Head
+    ensures { λ r. ⌜ r ≡ headIn script sat dissat ⌝ }
+{
+    let free = script / 0x1000_0000_0000_0000 % 2;
+    let free_verify = free == 1;
+    let pk_cost = (script % 0x40_0000) as u32;
+    let cost = cost_in(script, sat, dissat);
+    Head {
+        free_verify,
+        pk_cost,
+        cost,
+    }
+}
+
+// The head of node i.
+pub fn head_at(work: &[u64], i: u16) -> Head
+    requires { ⌜ length (now work) ≡ workWords ⌝ }
+    ensures { λ r. ⌜ r ≡ headOf (nodeAt (now (work .entry)) i) ⌝ }
+{
+    let at = 8 * (i as usize);
+    head_in(work[at + 9], work[at + 14], work[at + 15])
+}
+
+// The type of node i.
+pub fn type_at(work: &[u64], i: u16) -> Type
+    requires { ⌜ length (now work) ≡ workWords ⌝ }
+    ensures { λ r. ⌜ r ≡ nodeAt (now (work .entry)) i .ty ⌝ }
+{
+    let at = 8 * (i as usize);
+    type_in(work[at + 8])
 }
 
 // How many nodes there are.

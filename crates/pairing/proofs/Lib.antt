@@ -2,3 +2,4 @@
 pub mod Numbered
 pub mod Placed
 pub mod Turns
+pub mod Fitting

@@ -1,13 +1,16 @@
 -- Wrapping a candidate: its closure, then each cast of what the search without dissatisfaction found. One lemma for each way out of `wrapped`,
 -- `wrapped_if_made`, `casts_of` and `cast_once`, and what their calls ask for. Assumes nothing.
 use mathlib.Core.Path.{_≡_, refl, sym, ap, _∙_, subst}
+use mathlib.Core.Bool.{Bool, true, false, true≢false}
 use mathlib.Core.List.{List}
+use mathlib.Core.Option.{Option, none, some}
 use Prim.Native.Nat.{ℕ, suc, _+_, _<_, _≤_}
 use native.Mathlib.Numerals.{add-one}
 use native.Mathlib.Omega.{arith}
 use lib.ListN.{length, drop}
 use lib.Ieee.{Float}
 use Rattle.contexts.specs.declared.Context.{Context}
+use Rattle.policies.specs.Policy.{Policy}
 use Rattle.policies.specs.Array.{policyAt}
 use Rattle.costs.specs.declared.DissatProb.{DissatProb}
 use Rattle.costs.specs.declared.DissatProb.the-variants as Prob
@@ -17,10 +20,11 @@ use Rattle.candidates.specs.declared.Made.the-variants as Made
 use Rattle.definition.specs.Candidates.{Candidate, Cast, allCasts, castNo}
 use Rattle.definition.specs.Tables as definition-tables
 use Rattle.definition.specs.Tables.{Probs, probs}
-use Rattle.definition.specs.Refusals.{M, State, Stored, done, refused, then}
+use Rattle.definition.specs.Refusals.{M, State, Stored, done, refused, then, lookup}
 use Rattle.definition.specs.Insertion.{insertClosure}
-use Rattle.definition.specs.Search.{Again, search, without, wrapped, wrappedIfMade, castsOf, forEach, insertedIfTyped}
+use Rattle.definition.specs.Search.{Again, redo, search, without, wrapped, wrappedIfMade, castsOf, forEach, insertedIfTyped}
 use Rattle.definition_laws.specs.Bodies.{againFor, againIn}
+use Rattle.definition_laws.proofs.Settling.{settled-skips, settled-stays, settles}
 use Rattle.definition_laws.proofs.Steps.{then-done, then-refused, then-then, castsOf-none, castsOf-next, wrapped-alone, wrapped-redo}
 use Rattle.nodes.specs.Views.{offered}
 use Rattle.nodes.proofs.Casts.{casts-from}
@@ -35,13 +39,13 @@ use Rattle.closure.proofs.Offering.{closed}
 use Rattle.search_state.specs.declared.Out.{Out}
 use Rattle.search_state.specs.declared.Out.the-variants as Out
 use Rattle.search_state.specs.State.{Ready, Onward, Paid, flagOf, stateIn, storedAll, slotTable}
-use Rattle.search_state.specs.Recalled.{tableAnswer, IsSlot, Searched, Tabled}
+use Rattle.search_state.specs.Recalled.{tableAnswer, IsSlot, Searched, Tabled, settlesWith}
 use Rattle.search_state.proofs.Growing.{onward-refl, onward-trans, onward-table, onward-holds, extends-onward, extends-stored}
 use Rattle.search_state.proofs.Chains.{paid-refl, paid-after, room-kept, tabled-then, tabled-next, tabled-stop, tabled-done, tabled-refused}
 use Rattle.search_state.proofs.Chains.{searched-next, searched-stop, closes-tabled}
 use Rattle.nodes.specs.Offers.{madeSeen}
 use Rattle.offers.specs.Offering.{SlotReady, InsertedCasts}
-use Rattle.search.specs.Searching.{Going, Doing, castOnce}
+use Rattle.search.specs.Searching.{Going, Doing, SettledIf, castOnce}
 use Rattle.search.proofs.Steps.{tabled-as, tabled-here, table-stays}
 
 -- ---- work on a table that is handed on
@@ -145,6 +149,18 @@ module _ (C : Context) (sat : Float) {pol : List ℕ} {r : ℕ} {dissat : Dissat
       (tabled-then (closes-tabled (h .ready) closes)
       (λ t. castsOf C (probs sat dissat) (search C (policyAt pol r) (without (probs sat dissat))) (allCasts C) t) casts))
 
+  pub wrapped-settled : {d : Float} → dissat ≡ Prob.Some d → {told : Bool} → told ≡ true → SettledIf told C pol r sat dissat c m₀
+      → Tabled 0
+      (then (tableAnswer pol m₀ c)
+      (λ t. wrapped C (probs sat dissat) (againIn C (policyAt pol r) (probs sat dissat)) (offered pol m₀ x) t)) pol o m₀ m₁
+  wrapped-settled is told settled =
+      starts h _ e
+      (tabled-as
+      (sym (settled-skips C (policyAt pol r) (probs sat dissat) (settled .settled told e) (offered pol m₀ x))
+      ∙ ap (λ (d : DissatProb). wrapped C (probs sat dissat) (againFor C (policyAt pol r) (probs sat dissat) d) (offered pol m₀ x)
+      (seenTable pol m₀ (c .table)) (stateIn pol m₀)) (sym is))
+      (closes-tabled (h .ready) closes))
+
 pub flag-some : {dissat : DissatProb} {d : Float} → dissat ≡ Prob.Some d → flagOf dissat ≡ 1
 flag-some is = ap flagOf is
 
@@ -169,6 +185,76 @@ module _ (C : Context) (p : Probs) (g : Again) {pol : List ℕ} {r : ℕ} {dissa
   missing-refused is e =
       refuses h (λ t. wrappedIfMade C p g (madeSeen pol m₀ x) t)
       (λ t s. ap (λ (x : code.Made). wrappedIfMade C p g (madeSeen pol m₀ x) t s) is) e
+
+-- ---- whether the table is settled
+
+pub unsettled : {C : Context} {pol : List ℕ} {r : ℕ} {sat : Float} {dissat : DissatProb} {c : Closed} {m : List ℕ}
+    → SettledIf false C pol r sat dissat c m
+unsettled = record { asked = λ e. absurd (true≢false (sym e)); settled = λ e d. absurd (true≢false (sym e)) }
+
+again-redo : (C : Context) (q : Policy) (p : Probs) (d : DissatProb) → flagOf d ≡ 1 → againFor C q p d ≡ redo (search C q (without p))
+again-redo C q p (Prob.Some d) e = refl
+again-redo C q p Prob.None e = absurd (omega (arith, e))
+
+-- what it says that a table is settled by the candidate that was wrapped
+record SettledBy (x : code.Made) (d : DissatProb) (t : Option definition-tables.Table) : Type 0 where
+  candidate : node.Candidate
+  is : x ≡ Made.Candidate candidate
+  flag : flagOf d ≡ 1
+  found : definition-tables.Table
+  has : t ≡ some found
+
+settled-by : (x : code.Made) (d : DissatProb) (t : Option definition-tables.Table) → settlesWith x d t ≡ true → SettledBy x d t
+settled-by (Made.Candidate y) (Prob.Some d) (some t) e = record { candidate = y; is = refl; flag = refl; found = t; has = refl }
+settled-by (Made.Candidate y) (Prob.Some d) none e = absurd (true≢false (sym e))
+settled-by (Made.Candidate y) Prob.None t e = absurd (true≢false (sym e))
+settled-by Made.PassedOver d t e = absurd (true≢false (sym e))
+settled-by Made.Missing d t e = absurd (true≢false (sym e))
+
+module _ (C : Context) (sat : Float) {pol : List ℕ} {r : ℕ} {dissat : DissatProb} {c : Closed} {m₀ : List ℕ} (h : Doing pol r dissat c m₀)
+    (x : code.Made) {o : Closed} {m : List ℕ}
+    (one : Tabled 0
+    (then (tableAnswer pol m₀ c)
+    (λ t. wrappedIfMade C (probs sat dissat) (againIn C (policyAt pol r) (probs sat dissat)) (madeSeen pol m₀ x) t)) pol o m₀ m) where
+  was-done-so : o .end ≡ Done → c .end ≡ Done
+  was-done-so e = was-done h _ one e
+
+  -- the step, for the definition
+  stepped : flagOf dissat ≡ 1 → o .end ≡ Done
+      → wrappedIfMade C (probs sat dissat) (redo (search C (policyAt pol r) (without (probs sat dissat)))) (madeSeen pol m₀ x)
+      (seenTable pol m₀ (c .table)) (stateIn pol m₀) ≡ done (seenTable pol m (o .table)) (stateIn pol m)
+  stepped flag e =
+      ap (λ (g : Again). wrappedIfMade C (probs sat dissat) g (madeSeen pol m₀ x) (seenTable pol m₀ (c .table)) (stateIn pol m₀))
+      (sym (again-redo C (policyAt pol r) (probs sat dissat) dissat flag))
+      ∙ sym
+      (then-done
+      (λ t. wrappedIfMade C (probs sat dissat) (againIn C (policyAt pol r) (probs sat dissat)) (madeSeen pol m₀ x) t)
+      (ap (λ (e : End). answer e (seenTable pol m₀ (c .table)) (stateIn pol m₀)) (was-done-so e)))
+      ∙ tabled-done one e
+
+  pub settled-on : {told told′ : Bool} → told′ ≡ told → SettledIf told C pol r sat dissat c m₀ → SettledIf told′ C pol r sat dissat o m
+  settled-on same s =
+      record {
+        asked = λ t. s .asked (sym same ∙ t);
+        settled =
+            λ t e. settled-stays C (policyAt pol r) (probs sat dissat) (s .settled (sym same ∙ t) (was-done-so e)) (madeSeen pol m₀ x)
+            (stepped (s .asked (sym same ∙ t)) e);
+      }
+
+  pub settled-from : {told : Bool} → told ≡ settlesWith x dissat (lookup (policyAt pol r) (probs sat Prob.None) (storedAll pol m))
+      → SettledIf told C pol r sat dissat o m
+  settled-from {told} is =
+      let by : told ≡ true → SettledBy x dissat (lookup (policyAt pol r) (probs sat Prob.None) (storedAll pol m)) =
+      λ t. settled-by x dissat (lookup (policyAt pol r) (probs sat Prob.None) (storedAll pol m)) (sym is ∙ t) in
+      record {
+        asked = λ t. by t .flag;
+        settled =
+            λ t e. settles C (policyAt pol r) (probs sat dissat) (offered pol m₀ (by t .candidate)) (seenTable pol m₀ (c .table)) (stateIn pol m₀)
+            (ap (λ (x : code.Made). wrappedIfMade C (probs sat dissat) (redo (search C (policyAt pol r) (without (probs sat dissat))))
+            (madeSeen pol m₀ x) (seenTable pol m₀ (c .table)) (stateIn pol m₀)) (sym (by t .is))
+            ∙ stepped (by t .flag) e)
+            (by t .has);
+      }
 
 -- ---- one cast
 

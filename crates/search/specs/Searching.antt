@@ -1,5 +1,5 @@
 -- What the functions of the search leave, by the definition (definition, specs/Search.antt) on what work memory stands for. Assumes nothing.
-use mathlib.Core.Bool.{Bool}
+use mathlib.Core.Bool.{Bool, true}
 use mathlib.Core.List.{List, [], _∷_, map}
 use mathlib.Core.Path.{_≡_}
 use Prim.Native.Nat.{ℕ, suc, _<_, _≤_}
@@ -22,6 +22,7 @@ use Rattle.definition.specs.Refusals.{M, State, Stored, Res, done, refused, the
 use Rattle.definition.specs.Search.{search, searchers, Searcher, leaves, insertedIfTyped, forEach, orNone, Best, bests, chosen, cheapest}
 use Rattle.definition_laws.specs.FormedPolicy.{FormedPolicy}
 use Rattle.definition_laws.specs.Bodies.{bodyOf}
+use Rattle.definition_laws.specs.Settled.{Settled}
 use Rattle.memory.specs.Layout.{nodeCount, tableCount}
 use Rattle.nodes.specs.Views.{seen, offered}
 use Rattle.nodes.specs.Answers.{Holds}
@@ -34,7 +35,7 @@ use Rattle.closure.specs.declared.End.{End}
 use Rattle.closure.specs.declared.End.the-variants.{Done, Refused}
 use Rattle.closure.specs.declared.Closed.{Closed}
 use Rattle.closure.specs.Closed.{answer}
-use Rattle.search_state.specs.State.{Classed, Ready, Onward, Room, Paid, load, stateIn, slotTable}
+use Rattle.search_state.specs.State.{Classed, Ready, Onward, Room, Paid, flagOf, load, stateIn, slotTable}
 use Rattle.stages.specs.declared.Ask.{Ask}
 use Rattle.stages.specs.declared.Pairing.{Pairing}
 use Rattle.stages.specs.Stages.{askAll, False}
@@ -80,6 +81,11 @@ pub record Doing (pol : List ℕ) (r : ℕ) (dissat : DissatProb) (c : Closed) (
   pub room : c .end ≡ Done → Room 1 (policyAt pol r) dissat m
 
 -- ---- casts
+
+-- where it is told that the table is settled, it is: the casts of what the search without dissatisfaction found change it no more
+pub record SettledIf (told : Bool) (c : Context) (pol : List ℕ) (r : ℕ) (sat : Float) (dissat : DissatProb) (t : Closed) (m : List ℕ) : Type 0 where
+  pub asked : told ≡ true → flagOf dissat ≡ 1
+  pub settled : told ≡ true → t .end ≡ Done → Settled c (policyAt pol r) (probs sat dissat) (stateIn pol m) (seenTable pol m (t .table))
 
 -- one cast of what a search gives
 abbrev pub castOnce : Context → Probs → M Table → Cast → Table → M Table

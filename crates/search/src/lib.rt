@@ -28,7 +28,7 @@ ghost use Rattle.nodes.specs.Offers.{madeSeen};
 ghost use Rattle.pairing.specs.Mades.{Paired};
 ghost use Rattle.offers.specs.Offering.{IsLeaf};
 ghost use Rattle.search.specs.Searching.{IsOr, IsThresh, childSearchers, Going, Doing};
-ghost use Rattle.search.specs.Searching.{castOnce, AllLighter, Under, AskedAll};
+ghost use Rattle.search.specs.Searching.{SettledIf, castOnce, AllLighter, Under, AskedAll};
 ghost use Rattle.search.specs.Searching.{AllPlaced, AllPaired, OffersIfMade, childDissat, FoundBest, FoundBests};
 use cache::Found;
 use candidates::Candidate;
@@ -59,6 +59,12 @@ const THRESH: u64 = 12;
 const NOT_A_COST: u8 = 10;
 
 const LIMITS_EXCEEDED: u8 = 11;
+
+// What a pairing leaves: the table, and whether it is known to be settled.
+pub struct Outcome {
+    pub closed: Closed,
+    pub settled: bool,
+}
 
 // The slots of the tables that were asked for, in order, or a refusal.
 pub struct Asked {
@@ -159,6 +165,7 @@ fn leaves(
     ensures { λ o. ⌜ Tabled 0 (bodyIn context (policyAt (now (pol .entry)) r) (probs sat dissat) (stateIn (now (pol .entry)) (now (work .entry)))) (now (pol .entry)) o (now (work .entry)) (now (work .exit)) ⌝ }
 {
     if kind == KEY {
+        let h = Candidate::pk_h(context, r as u16);
         let c = wrapped(
             context,
             pol,
@@ -166,9 +173,11 @@ fn leaves(
             r,
             sat,
             dissat,
-            Candidate::pk_h(context, r as u16),
+            h,
             offers::empty(),
+            false,
         );
+        let settled = search_state::settles(pol, work, r, sat, dissat, Made::Candidate(h));
         return wrapped(
             context,
             pol,
@@ -178,6 +187,7 @@ fn leaves(
             dissat,
             Candidate::pk_k(context, r as u16),
             c,
+            settled,
         );
     }
     wrapped(
@@ -189,6 +199,7 @@ fn leaves(
         dissat,
         offers::leaf_of(kind, number, r as u16),
         offers::empty(),
+        false,
     )
 }
 
@@ -392,7 +403,7 @@ fn search_all(
     }
 }
 
-// The pairings, one after another.
+// The pairings, one after another: a table that one of them settled stays so.
 fn pair_all(
     context: Context,
     pol: &[u64],
@@ -409,16 +420,20 @@ fn pair_all(
     ensures { λ o. ⌜ Tabled 0 (then (tableAnswer (now (pol .entry)) (now (work .entry)) c) (λ t. pairAll context (probs sat dissat) (againIn context (policyAt (now (pol .entry)) r) (probs sat dissat)) (map (slotTable (now (pol .entry)) (now (work .entry))) slots) (take k pairings) t)) (now (pol .entry)) o (now (work .entry)) (now (work .exit)) ⌝ }
 {
     let mut done = c;
+    let mut settled = false;
     let mut i = 0;
     while i < k {
         let a = pairings[i];
-        done = pair(context, pol, work, r, sat, dissat, a, slots, done);
+        let next = pair(context, pol, work, r, sat, dissat, a, slots, done, settled);
+        done = next.closed;
+        settled = next.settled;
         i += 1;
     }
     done
 }
 
-// All candidates of one pairing, each wrapped.
+// All candidates of one pairing, each wrapped. The casts of what the search without dissatisfaction found are offered until the table is
+// settled: from then on they would change nothing.
 fn pair(
     context: Context,
     pol: &[u64],
@@ -429,19 +444,27 @@ fn pair(
     a: Pairing,
     slots: [u16; 8],
     c: Closed,
-) -> Closed
-    requires { ⌜ Doing (now pol) r dissat c (now work) × Paired (now work) a slots ⌝ }
-    ensures { λ o. ⌜ Tabled 0 (then (tableAnswer (now (pol .entry)) (now (work .entry)) c) (λ t. paired context (probs sat dissat) (againIn context (policyAt (now (pol .entry)) r) (probs sat dissat)) (map (slotTable (now (pol .entry)) (now (work .entry))) slots) a t)) (now (pol .entry)) o (now (work .entry)) (now (work .exit)) ⌝ }
+    already: bool,
+) -> Outcome
+    requires { ⌜ Doing (now pol) r dissat c (now work) × Paired (now work) a slots × SettledIf already context (now pol) r sat dissat c (now work) ⌝ }
+    ensures { λ o. ⌜ Tabled 0 (then (tableAnswer (now (pol .entry)) (now (work .entry)) c) (λ t. paired context (probs sat dissat) (againIn context (policyAt (now (pol .entry)) r) (probs sat dissat)) (map (slotTable (now (pol .entry)) (now (work .entry))) slots) a t)) (now (pol .entry)) (o .closed) (now (work .entry)) (now (work .exit)) × SettledIf (o .settled) context (now (pol .entry)) r sat dissat (o .closed) (now (work .exit)) ⌝ }
 {
     let many = pairing::count(work, a, slots);
     let mut done = c;
+    let mut settled = already;
     let mut i = 0;
     while i < many {
         let x = pairing::made(work, a, slots, i);
-        done = wrapped_if_made(context, pol, work, r, sat, dissat, x, done);
+        done = wrapped_if_made(context, pol, work, r, sat, dissat, x, done, settled);
+        if !settled {
+            settled = search_state::settles(pol, work, r, sat, dissat, x);
+        }
         i += 1;
     }
-    done
+    Outcome {
+        closed: done,
+        settled,
+    }
 }
 
 // What was made of others is wrapped, unless it was passed over.
@@ -454,12 +477,13 @@ fn wrapped_if_made(
     dissat: DissatProb,
     x: Made,
     c: Closed,
+    settled: bool,
 ) -> Closed
-    requires { ⌜ Doing (now pol) r dissat c (now work) × OffersIfMade (now work) x ⌝ }
+    requires { ⌜ Doing (now pol) r dissat c (now work) × OffersIfMade (now work) x × SettledIf settled context (now pol) r sat dissat c (now work) ⌝ }
     ensures { λ o. ⌜ Tabled 0 (then (tableAnswer (now (pol .entry)) (now (work .entry)) c) (λ t. wrappedIfMade context (probs sat dissat) (againIn context (policyAt (now (pol .entry)) r) (probs sat dissat)) (madeSeen (now (pol .entry)) (now (work .entry)) x) t)) (now (pol .entry)) o (now (work .entry)) (now (work .exit)) ⌝ }
 {
     match x {
-        Made::Candidate(y) => wrapped(context, pol, work, r, sat, dissat, y, c),
+        Made::Candidate(y) => wrapped(context, pol, work, r, sat, dissat, y, c, settled),
         Made::PassedOver => c,
         Made::Missing => {
             let table = c.table;
@@ -478,7 +502,7 @@ fn wrapped_if_made(
     }
 }
 
-// The candidate x with its closure, then each cast of what the search without dissatisfaction found.
+// The candidate x with its closure, then each cast of what the search without dissatisfaction found, unless the table is settled.
 fn wrapped(
     context: Context,
     pol: &[u64],
@@ -488,8 +512,9 @@ fn wrapped(
     dissat: DissatProb,
     x: Candidate,
     c: Closed,
+    settled: bool,
 ) -> Closed
-    requires { ⌜ Doing (now pol) r dissat c (now work) × Offerable (now work) x ⌝ }
+    requires { ⌜ Doing (now pol) r dissat c (now work) × Offerable (now work) x × SettledIf settled context (now pol) r sat dissat c (now work) ⌝ }
     ensures { λ o. ⌜ Tabled 0 (then (tableAnswer (now (pol .entry)) (now (work .entry)) c) (λ t. wrapped context (probs sat dissat) (againIn context (policyAt (now (pol .entry)) r) (probs sat dissat)) (offered (now (pol .entry)) (now (work .entry)) x) t)) (now (pol .entry)) o (now (work .entry)) (now (work .exit)) ⌝ }
 {
     let table = c.table;
@@ -503,7 +528,12 @@ fn wrapped(
             let closed = closure::insert_closure(context, work, sat, dissat, x, table);
             match dissat {
                 DissatProb::None => closed,
-                DissatProb::Some(_) => casts_of(context, pol, work, r, sat, dissat, closed),
+                DissatProb::Some(_) => {
+                    if settled {
+                        return closed;
+                    }
+                    casts_of(context, pol, work, r, sat, dissat, closed)
+                }
             }
         }
     }
@@ -613,7 +643,17 @@ fn thresh_body(
     let gaining = choice::most_gaining(work, es, ws, n, child_sat, child_dissat);
     let row = choice::arrange(es, ws, n, gaining);
     let x = choice::thresh_made(context, work, r as u16, k, n as u16, row);
-    let one = wrapped_if_made(context, pol, work, r, sat, dissat, x, offers::empty());
+    let one = wrapped_if_made(
+        context,
+        pol,
+        work,
+        r,
+        sat,
+        dissat,
+        x,
+        offers::empty(),
+        false,
+    );
     let two = multi(context, pol, work, r, sat, dissat, k, n, one);
     folded(context, pol, work, r, sat, dissat, k, n, two)
 }
@@ -719,7 +759,7 @@ fn multi(
 {
     if choice::all_keys(pol, r, n) {
         let x = choice::multi_of(context, r as u16, k, n as u16);
-        return wrapped(context, pol, work, r, sat, dissat, x, c);
+        return wrapped(context, pol, work, r, sat, dissat, x, c, false);
     }
     c
 }

@@ -14,8 +14,12 @@ use Rattle.classes.specs.Classes.{classAt}
 use Rattle.classes.proofs.Laws.{equal-classes, equal-policies}
 use Rattle.classes.proofs.Places.{named-below}
 use Rattle.costs.specs.declared.DissatProb.{DissatProb}
+use Rattle.costs.specs.declared.DissatProb.the-variants as Prob
+use Rattle.candidates.specs.declared.Candidate as node
+use Rattle.candidates.specs.declared.Made as code
+use Rattle.candidates.specs.declared.Made.the-variants as Made
 use Rattle.definition.specs.SamePolicy.{same}
-use Rattle.definition.specs.Tables.{Table, probs}
+use Rattle.definition.specs.Tables.{Probs, Table, probs}
 use Rattle.definition.specs.Refusals.{sameProbs, lookup}
 use Rattle.definition_laws.proofs.SamePolicies.{same-self, same-not}
 use Rattle.definition_laws.proofs.Steps.{lookup-none, lookup-found, lookup-other}
@@ -24,8 +28,8 @@ use Rattle.cache.specs.declared.Found.the-variants.{At, Missing}
 use Rattle.memory.specs.Layout.{tableCount}
 use Rattle.cache.specs.Slots.{Slot, slotAt, slotsUpTo}
 use Rattle.cache.specs.Lookup.{sameKey, findUpTo, findIn}
-use Rattle.search_state.specs.State.{storedAs, slotTable, Classed, SlotHolds, Ready}
-use Rattle.search_state.specs.Recalled.{Recalled, found, new}
+use Rattle.search_state.specs.State.{storedAs, storedAll, slotTable, Classed, SlotHolds, Ready}
+use Rattle.search_state.specs.Recalled.{Recalled, found, new, isFound, settlesWith}
 
 -- ---- classes
 
@@ -119,3 +123,30 @@ module _ {pol m : List ℕ} (classed : Classed pol) (ready : Ready pol m) (r : �
     -- what is found under a class is what the definition looks up
     pub recalled : {k : ℕ} {f : Found} → k ≡ classAt pol r → f ≡ findIn m k sat dissat → Recalled pol m (policyAt pol r) (probs sat dissat) f
     recalled e q = rw (q, e) (recalled-as (findIn m (classAt pol r) sat dissat) (looks-up (tableCount m) (omega arith)))
+
+-- ---- whether a table is remembered
+
+module _ {pol m : List ℕ} {q : Policy} {p : Probs} where
+  pub recalled-yes : {f : Found} {s : ℕ} → Recalled pol m q p f → f ≡ At s → true ≡ isFound (lookup q p (storedAll pol m))
+  recalled-yes (found l e) is = sym (ap isFound e)
+  recalled-yes (new e) is = absurd (let z : _≡_ {A = ℕ} 0 1 = cc in omega arith)
+
+  pub recalled-no : {f : Found} → Recalled pol m q p f → f ≡ Missing → false ≡ isFound (lookup q p (storedAll pol m))
+  recalled-no (found l e) is = absurd (let z : _≡_ {A = ℕ} 0 1 = cc in omega arith)
+  recalled-no (new e) is = sym (ap isFound e)
+
+-- ---- whether a table is settled
+
+module _ {x : code.Made} {dissat : DissatProb} (t : Option Table) where
+  pub settles-as : {y : node.Candidate} {d : Float} → x ≡ Made.Candidate y → dissat ≡ Prob.Some d → isFound t ≡ settlesWith x dissat t
+  settles-as is some-is = sym (rw (is, some-is))
+
+  pub settles-never : {y : node.Candidate} → x ≡ Made.Candidate y → dissat ≡ Prob.None → false ≡ settlesWith x dissat t
+  settles-never is none-is = sym (rw (is, none-is))
+
+module _ {x : code.Made} (dissat : DissatProb) (t : Option Table) where
+  pub settles-passed : x ≡ Made.PassedOver → false ≡ settlesWith x dissat t
+  settles-passed is = sym (rw is)
+
+  pub settles-missing : x ≡ Made.Missing → false ≡ settlesWith x dissat t
+  settles-missing is = sym (rw is)

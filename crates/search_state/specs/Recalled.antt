@@ -1,10 +1,15 @@
 -- What asking for a remembered table, and remembering one, leave, by the definition (definition, specs/Refusals.antt and Search.antt) on what
 -- work memory stands for. Assumes nothing.
+use mathlib.Core.Bool.{Bool, true, false}
 use mathlib.Core.List.{List}
-use mathlib.Core.Option.{none, some}
+use mathlib.Core.Option.{Option, none, some}
 use mathlib.Core.Path.{_≡_}
 use Prim.Native.Nat.{ℕ, suc, _<_}
 use Rattle.policies.specs.Policy.{Policy}
+use Rattle.costs.specs.declared.DissatProb.{DissatProb}
+use Rattle.costs.specs.declared.DissatProb.the-variants as Prob
+use Rattle.candidates.specs.declared.Made as code
+use Rattle.candidates.specs.declared.Made.the-variants as Made
 use Rattle.definition.specs.Tables.{Probs, Table}
 use Rattle.definition.specs.Refusals.{Res, done, refused, then, lookup}
 use Rattle.definition.specs.Search.{kept}
@@ -57,6 +62,17 @@ pub record Tabled (extra : ℕ) (res : Res Table) (pol : List ℕ) (r : Closed) 
 pub data Recalled (pol m : List ℕ) (q : Policy) (p : Probs) : Found → Type 0 where
   found : {s : ℕ} → s < tableCount m → lookup q p (storedAll pol m) ≡ some (slotTable pol m s) → Recalled pol m q p (At s)
   new : lookup q p (storedAll pol m) ≡ none → Recalled pol m q p Missing
+
+abbrev pub isFound : Option Table → Bool
+isFound (some t) = true
+isFound none = false
+
+-- whether the table is settled that x was wrapped for: x was made, dissatisfaction is asked for, and the policy's table without it is remembered
+abbrev pub settlesWith : code.Made → DissatProb → Option Table → Bool
+settlesWith (Made.Candidate x) (Prob.Some d) t = isFound t
+settlesWith (Made.Candidate x) Prob.None t = false
+settlesWith Made.PassedOver dissat t = false
+settlesWith Made.Missing dissat t = false
 
 -- ---- a table is remembered
 

@@ -2,16 +2,20 @@
 //
 // Its contracts cite `specs/State.antt` (work memory as the definition's state) and `specs/Recalled.antt`. The laws that crates above cite stand in
 // `proofs/`.
+ghost use mathlib.Core.Path.{_≡_};
 ghost use Prim.Native.Nat.{_<_};
 ghost use Rattle.policies.specs.Array.{policyAt, Named};
+ghost use Rattle.costs.specs.declared.DissatProb.the-variants.{None};
 ghost use Rattle.definition.specs.Tables.{probs};
+ghost use Rattle.definition.specs.Refusals.{lookup};
 ghost use Rattle.cache.specs.Slots.{slotAt, Kept};
 ghost use Rattle.memory.specs.Layout.{tableCount};
 ghost use Rattle.table.specs.Rows.{Rows, TableHolds};
-ghost use Rattle.search_state.specs.State.{Classed, Ready};
-ghost use Rattle.search_state.specs.Recalled.{Recalled, Remembered};
+ghost use Rattle.search_state.specs.State.{Classed, Ready, storedAll};
+ghost use Rattle.search_state.specs.Recalled.{Recalled, isFound, settlesWith, Remembered};
 use cache::Found;
 use cache::Stored;
+use candidates::Made;
 use closure::Closed;
 use closure::End;
 use costs::DissatProb;
@@ -35,6 +39,32 @@ pub fn recall(pol: &[u64], work: &[u64], r: usize, sat: f64, dissat: DissatProb)
 {
     let class = classes::class_of(pol, r);
     cache::find(work, class as u16, sat, dissat)
+}
+
+// Whether a table is remembered of the policy that number r stands for.
+fn remembers(pol: &[u64], work: &[u64], r: usize, sat: f64, dissat: DissatProb) -> bool
+    requires { ⌜ Classed (now pol) × (Named (now pol) r × Ready (now pol) (now work)) ⌝ }
+    ensures { λ b. ⌜ b ≡ isFound (lookup (policyAt (now (pol .entry)) r) (probs sat dissat) (storedAll (now (pol .entry)) (now (work .entry)))) ⌝ }
+{
+    match recall(pol, work, r, sat, dissat) {
+        Found::At(_) => true,
+        Found::Missing => false,
+    }
+}
+
+// Whether the table that x was wrapped for is settled: x was made, and the policy's table without dissatisfaction, which was asked for, is remembered.
+pub fn settles(pol: &[u64], work: &[u64], r: usize, sat: f64, dissat: DissatProb, x: Made) -> bool
+    requires { ⌜ Classed (now pol) × (Named (now pol) r × Ready (now pol) (now work)) ⌝ }
+    ensures { λ b. ⌜ b ≡ settlesWith x dissat (lookup (policyAt (now (pol .entry)) r) (probs sat None) (storedAll (now (pol .entry)) (now (work .entry)))) ⌝ }
+{
+    match x {
+        Made::Candidate(_) => match dissat {
+            DissatProb::Some(_) => remembers(pol, work, r, sat, DissatProb::None),
+            DissatProb::None => false,
+        },
+        Made::PassedOver => false,
+        Made::Missing => false,
+    }
 }
 
 // Remembers a table of the policy that number r stands for; an empty one is refused.

@@ -1,6 +1,7 @@
 -- `pairing::pair_at` meets its contract: the digits of i, to the length of the second table, are the numbers of the two entries. Assumes
 -- nothing.
-use Rattle.pairing.proofs.Placed.{pair-some, pair-first, pair-second, small-node, pair-made}
+use mathlib.Core.Path.{refl}
+use Rattle.pairing.proofs.Placed.{pair-some, pair-first, pair-second, pair-made}
 use Rattle.pairing.proofs.pair_at.Statement.{statement}
 use Rattle.pairing.proofs.pair_at.Tie as tie
 
@@ -37,27 +38,16 @@ entry-at-requires-2 c κs =
     let below = pair-second (args .work .now) (args .slots) (args .a) (args .i) (pre .1 .0) (pre .1 .1) (n .ensures .0) in
     (pre .0 .tables, (pre .0 .second, below))
 
-node-requires : tie.Need-node-requires
-node-requires c κs = c .before .before .before .before .pre .0 .nodes .long
-
-node-requires-2 : tie.Need-node-requires-2
-node-requires-2 c κs = c .before .before .before .before .before .pre .0 .nodes .long
-
-pair-requires : tie.Need-pair-requires
-pair-requires c κs =
-    let m = c .before .before .before .before .before .before .args .work .now in
-    let l = c .before .before .before .entry-at in
-    let r = c .before .before .entry-at2 in
-    (small-node m (l .result) (c .before .node .ensures), small-node m (r .result) (c .node2 .ensures))
+pair-of-requires : tie.Need-pair-of-requires
+pair-of-requires c κs = c .before .before .before .before .pre .0 .nodes .long
 
 returns : tie.Need-returns
 returns c =
-    let pre = c .before .before .before .before .before .before .before .pre in
-    let n = c .before .before .before .before .before .length-at in
-    let l = c .before .before .before .before .entry-at in
-    let r = c .before .before .before .entry-at2 in
-    pair-made (pre .0) (pre .1 .0) (pre .1 .1) (n .ensures .0) (l .ensures) (r .ensures)
-    (c .before .before .node .ensures) (c .before .node2 .ensures) (c .pair .ensures)
+    let length-at = c .before .before .before .length-at in
+    let entry-at = c .before .before .entry-at in
+    let entry-at2 = c .before .entry-at2 in
+    let pre = c .before .before .before .before .before .pre in
+    pair-made (pre .0) (pre .1 .0) (pre .1 .1) (length-at .ensures .0) (entry-at .ensures) (entry-at2 .ensures) refl refl (c .pair-of .ensures)
 
 pub pair-at-spec : {M : Type 1} → statement M
 pair-at-spec =
@@ -68,7 +58,5 @@ pair-at-spec =
     entry-at-requires
     rem-entry-at
     entry-at-requires-2
-    node-requires
-    node-requires-2
-    pair-requires
+    pair-of-requires
     returns)

@@ -1,6 +1,7 @@
 -- `pairing::triple_at` meets its contract: the digits of i, to the lengths of the third and second tables, are the numbers of the entries.
 -- Assumes nothing.
-use Rattle.pairing.proofs.Placed.{triple-some, triple-pairs, triple-first, triple-second, triple-third, small-node, triple-made}
+use mathlib.Core.Path.{refl}
+use Rattle.pairing.proofs.Placed.{triple-some, triple-pairs, triple-first, triple-second, triple-third, triple-made}
 use Rattle.pairing.proofs.triple_at.Statement.{statement}
 use Rattle.pairing.proofs.triple_at.Tie as tie
 
@@ -77,36 +78,19 @@ entry-at-requires-3 c κs =
     let below = triple-third (args .work .now) (args .slots) (args .a) (args .i) (pre .1 .0) (pre .1 .1) (nb .ensures .0) (nc .ensures .0) in
     (pre .0 .tables, (pre .0 .third, below))
 
-node-requires : tie.Need-node-requires
-node-requires c κs = c .before .before .before .before .before .before .pre .0 .nodes .long
-
-node-requires-2 : tie.Need-node-requires-2
-node-requires-2 c κs = c .before .before .before .before .before .before .before .pre .0 .nodes .long
-
-node-requires-3 : tie.Need-node-requires-3
-node-requires-3 c κs = c .before .before .before .before .before .before .before .before .pre .0 .nodes .long
-
-and-or-requires : tie.Need-and-or-requires
-and-or-requires c κs =
-    let m = c .before .before .before .before .before .before .before .before .before .args .work .now in
-    let l = c .before .before .before .before .before .entry-at in
-    let r = c .before .before .before .before .entry-at2 in
-    let e = c .before .before .before .entry-at3 in
-    let x = c .before .before .node in
-    let y = c .before .node2 in
-    let z = c .node3 in
-    (small-node m (l .result) (x .ensures), (small-node m (r .result) (y .ensures), small-node m (e .result) (z .ensures)))
+triple-of-requires : tie.Need-triple-of-requires
+triple-of-requires c κs = c .before .before .before .before .before .before .pre .0 .nodes .long
 
 returns : tie.Need-returns
 returns c =
-    let pre = c .before .before .before .before .before .before .before .before .before .before .pre in
-    let nb = c .before .before .before .before .before .before .before .before .length-at in
-    let nc = c .before .before .before .before .before .before .before .length-at2 in
-    let l = c .before .before .before .before .before .before .entry-at in
-    let r = c .before .before .before .before .before .entry-at2 in
-    let e = c .before .before .before .before .entry-at3 in
-    triple-made (pre .0) (pre .1 .0) (pre .1 .1) (nb .ensures .0) (nc .ensures .0) (l .ensures) (r .ensures) (e .ensures)
-    (c .before .before .before .node .ensures) (c .before .before .node2 .ensures) (c .before .node3 .ensures) (c .and-or .ensures)
+    let length-at = c .before .before .before .before .before .length-at in
+    let length-at2 = c .before .before .before .before .length-at2 in
+    let entry-at = c .before .before .before .entry-at in
+    let entry-at2 = c .before .before .entry-at2 in
+    let entry-at3 = c .before .entry-at3 in
+    let pre = c .before .before .before .before .before .before .before .pre in
+    triple-made (pre .0) (pre .1 .0) (pre .1 .1) (length-at .ensures .0) (length-at2 .ensures .0) (entry-at .ensures) (entry-at2 .ensures)
+    (entry-at3 .ensures) refl refl refl (c .triple-of .ensures)
 
 pub triple-at-spec : {M : Type 1} → statement M
 triple-at-spec =
@@ -122,8 +106,5 @@ triple-at-spec =
     entry-at-requires-2
     rem-entry-at-2
     entry-at-requires-3
-    node-requires
-    node-requires-2
-    node-requires-3
-    and-or-requires
+    triple-of-requires
     returns)

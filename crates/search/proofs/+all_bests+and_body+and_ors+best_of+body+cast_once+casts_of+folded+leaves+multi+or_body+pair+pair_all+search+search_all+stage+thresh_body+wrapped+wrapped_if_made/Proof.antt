@@ -2,21 +2,25 @@
 -- the function's place. An answer names the places of the code that it speaks of (`start` is the function's entry), and then cites lemmas.
 -- Assumes nothing.
 use borrow.Author.Needs.{needs}
-use mathlib.Core.Path.{refl, sym, _≡_}
+use mathlib.Core.Path.{refl, sym, _≡_, _∙_}
+use mathlib.Core.Logic.{⊎-elim}
 use native.Mathlib.Omega.{arith}
 use lib.ListN.{length-set, length, take}
 use Prim.Native.Nat.{ℕ, _<_, _-_, _≤_}
 use borrow.Fn.Kinds.{In}
 use borrow.Fn.PlainCycle.{Measures, is, falls, and}
+use Rattle.candidates.specs.declared.Made.the-variants as Made
 use Rattle.definition.specs.Tables.{probs}
 use Rattle.definition_laws.specs.Bodies.{againIn}
 use Rattle.policies.specs.Array.{policyAt}
 use Rattle.nodes.proofs.Leaves.{pk-h-offers, pk-k-offers}
 use Rattle.policies.proofs.Forms.{two-and, two-or}
 use Rattle.definition.specs.Search as definition
+use Rattle.search.specs.Searching.{SettledIf}
 use Rattle.search.proofs.Asking.{going-more, going-again}
 use Rattle.search.proofs.Wrapping.{ready-long, stops, doing-next, doing-going, made-wrapped, passed-over}
-use Rattle.search.proofs.Wrapping.{missing-refused, CastsOn, wrapped-doing, wrapped-plain, wrapped-casts}
+use Rattle.search.proofs.Wrapping.{missing-refused, CastsOn, wrapped-doing, wrapped-plain, wrapped-casts, wrapped-settled}
+use Rattle.search.proofs.Wrapping.{unsettled, settled-on, settled-from}
 use Rattle.search.proofs.Wrapping.{flag-some, cast-refused, cast-ready, cast-done, casts-begin, casts-going}
 use Rattle.search.proofs.Wrapping.{casts-end, casts-refused, casts-go-on}
 use Rattle.search.proofs.Threshes.{searched-slot, BestsSoFar, bests-begin, best-found, best-missing, best-refused}
@@ -120,6 +124,7 @@ use Rattle.policies.proofs.folded_of.Reads as folded-of-reads
 use Rattle.policies.proofs.head_of.Reads as head-of-reads
 use Rattle.search_state.proofs.recall.Reads as recall-reads
 use Rattle.search_state.proofs.remember.Reads as remember-reads
+use Rattle.search_state.proofs.settles.Reads as settles-reads
 use Rattle.search_state.proofs.table_of.Reads as table-of-reads
 use Rattle.search.proofs.child_dissat.Reads as child-dissat-reads
 use Rattle.stages.proofs.and_asks.Reads as and-asks-reads
@@ -1214,6 +1219,8 @@ leaves-calls t = (
   empty-reads.Learnt,
   wrapped-below t,
   wrapped.Post,
+  settles-reads.Asked,
+  settles-reads.Learnt,
   pk-k-reads.Asked,
   pk-k-reads.Learnt,
   leaf-of-reads.Asked,
@@ -1222,7 +1229,7 @@ leaves-calls t = (
 
 leaves-cast-pk-h : (t : ℕ) → leaves-lts.Need-cast-pk-h (leaves-calls t) (leaves-at t) leaves.Post
 leaves-cast-pk-h t c =
-    let pre = c .before .before .before .before .pre in
+    let pre = c .before .before .before .pre in
     omega (arith, named-low (pre .1 .0 .classed .good) (pre .1 .0 .named))
 
 leaves-pk-h-requires : (t : ℕ) → leaves-lts.Need-pk-h-requires (leaves-calls t) (leaves-at t) leaves.Post
@@ -1233,20 +1240,26 @@ leaves-empty-requires t c κs = tt
 
 leaves-wrapped-requires : (t : ℕ) → leaves-lts.Need-wrapped-requires (leaves-calls t) (leaves-at t) leaves.Post
 leaves-wrapped-requires t c κs =
-    let pk-h = c .before .pk-h in
-    let start = c .before .before .before .before .before .before in
-    let args = start .args in
-    let pre = start .pre in (
+    let pk-h = c .before .before .pk-h in
+    let args = c .before .before .before .before .before .before .args in
+    let pre = c .before .before .before .before .before .before .pre in (
       below (omega arith) (pre .0),
       (
         empty-doing (c .empty .ensures) (pre .1 .0),
         offers-as (pk-h .ensures) (pk-h-offers (args .work .now) (args .context) (args .r)),
+        unsettled,
       ),
     )
 
+leaves-settles-requires : (t : ℕ) → leaves-lts.Need-settles-requires (leaves-calls t) (leaves-at t) leaves.Post
+leaves-settles-requires t c κs =
+    let wrapped = c .before .before .before .wrapped in
+    let pre = c .before .before .before .before .before .before .before .before .before .before .pre in
+    (pre .1 .0 .classed, (pre .1 .0 .named, wrapped .ensures .ready))
+
 leaves-cast-pk-k : (t : ℕ) → leaves-lts.Need-cast-pk-k (leaves-calls t) (leaves-at t) leaves.Post
 leaves-cast-pk-k t c =
-    let pre = c .before .before .before .before .before .before .before .before .before .before .pre in
+    let pre = c .before .before .before .before .before .before .before .before .before .before .before .before .pre in
     omega (arith, named-low (pre .1 .0 .classed .good) (pre .1 .0 .named))
 
 leaves-pk-k-requires : (t : ℕ) → leaves-lts.Need-pk-k-requires (leaves-calls t) (leaves-at t) leaves.Post
@@ -1254,37 +1267,41 @@ leaves-pk-k-requires t c κs = tt
 
 leaves-wrapped-requires-2 : (t : ℕ) → leaves-lts.Need-wrapped-requires-2 (leaves-calls t) (leaves-at t) leaves.Post
 leaves-wrapped-requires-2 t c κs =
-    let wrapped = c .before .before .before .before .wrapped in
-    let empty = c .before .before .before .before .before .empty in
-    let start = c .before .before .before .before .before .before .before .before .before .before .before in
-    let args = start .args in
-    let pre = start .pre in (
+    let settles = c .before .before .settles in
+    let wrapped = c .before .before .before .before .before .before .wrapped in
+    let empty = c .before .before .before .before .before .before .before .empty in
+    let pk-h = c .before .before .before .before .before .before .before .before .before .pk-h in
+    let args = c .before .before .before .before .before .before .before .before .before .before .before .before .before .args in
+    let pre = c .before .before .before .before .before .before .before .before .before .before .before .before .before .pre in
+    let p = probs (args .sat) (args .dissat) in
+    let q = policyAt (args .pol .now) (args .r) in
+    let again = againIn (args .context) q p in
+    let doing = empty-doing (empty .ensures) (pre .1 .0) in (
       below (omega arith) (pre .0),
       (
-        doing-next (empty-doing (empty .ensures) (pre .1 .0)) _ (wrapped .ensures),
+        doing-next doing _ (wrapped .ensures),
         offers-as (c .pk-k .ensures) (pk-k-offers (wrapped .last .1 .1 .0) (args .context) (args .r)),
+        settled-from (args .context) (args .sat) doing (Made.Candidate (pk-h .result))
+            (made-wrapped (args .context) p again doing refl (wrapped .ensures)) (settles .ensures),
       ),
     )
 
 leaves-same-length : (t : ℕ) → leaves-lts.Need-same-length (leaves-calls t) (leaves-at t) leaves.Post
 leaves-same-length t c =
     let wrapped2 = c .before .before .wrapped2 in
-    let earlier = c .before .before .before .before .before .before .before .before .before .before .before .before in
-    let pre = earlier .before .before .pre in
+    let pre = c .before .before .before .before .before .before .before .before .before .before .before .before .before .before .before .before .pre in
     ready-long (pre .1 .0 .ready) (wrapped2 .ensures .ready)
 
 leaves-returns : (t : ℕ) → leaves-lts.Need-returns (leaves-calls t) (leaves-at t) leaves.Post
 leaves-returns t c =
     let wrapped2 = c .before .before .wrapped2 in
     let pk-k = c .before .before .before .pk-k in
-    let at-wrapped = c .before .before .before .before .before .before .before in
-    let wrapped = at-wrapped .wrapped in
-    let empty = at-wrapped .before .empty in
-    let pk-h = at-wrapped .before .before .pk-h in
-    let if1 = at-wrapped .before .before .before .before .if1 in
-    let start = at-wrapped .before .before .before .before .before .before .before in
-    let args = start .args in
-    let pre = start .pre in
+    let wrapped = c .before .before .before .before .before .before .before .before .before .wrapped in
+    let empty = c .before .before .before .before .before .before .before .before .before .before .empty in
+    let pk-h = c .before .before .before .before .before .before .before .before .before .before .before .before .pk-h in
+    let if1 = c .before .before .before .before .before .before .before .before .before .before .before .before .before .if1 in
+    let args = c .before .before .before .before .before .before .before .before .before .before .before .before .before .before .before .before .args in
+    let pre = c .before .before .before .before .before .before .before .before .before .before .before .before .before .before .before .before .pre in
     body-key (args .context) (args .sat) (args .dissat) (leaf-key (pre .1 .1) (if1 .taken)) (pk-h .ensures) (pk-k .ensures)
     (empty .ensures) (wrapped .ensures) (wrapped2 .ensures)
 
@@ -1305,7 +1322,7 @@ leaves-wrapped-requires-3 t c κs =
     let start = c .before .before .before .before .before .before in
     let args = start .args in
     let pre = start .pre in
-    (below (omega arith) (pre .0), (empty-doing (c .empty2 .ensures) (pre .1 .0), leaf-of .ensures .offers (args .work .now)))
+    (below (omega arith) (pre .0), (empty-doing (c .empty2 .ensures) (pre .1 .0), leaf-of .ensures .offers (args .work .now), unsettled))
 
 leaves-same-length-2 : (t : ℕ) → leaves-lts.Need-same-length-2 (leaves-calls t) (leaves-at t) leaves.Post
 leaves-same-length-2 t c =
@@ -1365,7 +1382,7 @@ multi-wrapped-requires t c κs =
     let args = start .args in
     let pre = start .pre in (
       below (omega arith) (pre .0),
-      (pre .1 .0, multi-of .ensures .offers (args .work .now) (doing-small (pre .1 .0) (pre .1 .1) .few)),
+      (pre .1 .0, multi-of .ensures .offers (args .work .now) (doing-small (pre .1 .0) (pre .1 .1) .few), unsettled),
     )
 
 multi-same-length : (t : ℕ) → multi-lts.Need-same-length (multi-calls t) (multi-at t) multi.Post
@@ -1530,12 +1547,12 @@ or-body-returns t c =
 -- ---- pair
 
 abbrev pair-Inv-loop : pair-lts.InvT-loop
-pair-Inv-loop context pol work₀ r sat dissat a slots many done₀ i₀ work done i =
+pair-Inv-loop context pol work₀ r sat dissat a slots already many done₀ settled₀ i₀ work done settled i =
     PairOn context (probs sat dissat) (againIn context (policyAt pol r) (probs sat dissat)) pol r dissat a slots done₀ work₀ i done work
-    × (i ≤ many)
+    × (i ≤ many) × SettledIf settled context pol r sat dissat done work
 
 abbrev pair-μ-loop : pair-lts.MeasureT-loop
-pair-μ-loop context pol work₀ r sat dissat a slots many done₀ i₀ work done i = many - i
+pair-μ-loop context pol work₀ r sat dissat a slots already many done₀ settled₀ i₀ work done settled i = many - i
 
 abbrev pair-calls : ℕ → pair-lts.Claims
 pair-calls t = (
@@ -1545,6 +1562,8 @@ pair-calls t = (
   made-reads.Learnt,
   wrapped-if-made-below t,
   wrapped-if-made.Post,
+  settles-reads.Asked,
+  settles-reads.Learnt,
 )
 
 pair-count-requires : (t : ℕ) → pair-lts.Need-count-requires (pair-calls t) (pair-at t) pair.Post pair-Inv-loop pair-μ-loop
@@ -1552,103 +1571,103 @@ pair-count-requires t c κs = c .before .before .before .pre .1 .1
 
 pair-loop-holds : (t : ℕ) → pair-lts.Need-loop-holds (pair-calls t) (pair-at t) pair.Post pair-Inv-loop pair-μ-loop
 pair-loop-holds t c =
-    let start = c .before .before .before .before in
-    let args = start .args in
-    let pre = start .pre in
+    let args = c .before .before .before .before .args in
+    let pre = c .before .before .before .before .pre in
     let p = probs (args .sat) (args .dissat) in
     let q = policyAt (args .pol .now) (args .r) in
     let again = againIn (args .context) q p in
-    (pair-begins (args .context) p again (pre .1 .1) (pre .1 .0), omega arith)
+    (pair-begins (args .context) p again (pre .1 .1) (pre .1 .0), omega arith, pre .1 .2)
 
 pair-made-requires : (t : ℕ) → pair-lts.Need-made-requires (pair-calls t) (pair-at t) pair.Post pair-Inv-loop pair-μ-loop
 pair-made-requires t c κs =
-    let loop-test = c .before .loop-test in
-    let loop = c .before .before .loop in
     let count = c .before .before .before .count in
-    let start = c .before .before .before .before .before .before .before in
-    let args = start .args in
-    let pre = start .pre in
+    let loop = c .before .before .loop in
+    let args = c .before .before .before .before .before .before .before .args in
+    let pre = c .before .before .before .before .before .before .before .pre in
     let p = probs (args .sat) (args .dissat) in
     let q = policyAt (args .pol .now) (args .r) in
     let again = againIn (args .context) q p in
-    pair-makes (args .context) p again (pre .1 .1) (count .ensures) (loop .i) (loop .inv .0) (loop-test .taken)
+    pair-makes (args .context) p again (pre .1 .1) (count .ensures) (loop .i) (loop .inv .0) (c .before .loop-test .taken)
 
 pair-wrapped-if-made-requires : (t : ℕ) →
     pair-lts.Need-wrapped-if-made-requires (pair-calls t) (pair-at t) pair.Post pair-Inv-loop pair-μ-loop
 pair-wrapped-if-made-requires t c κs =
-    let made = c .before .made in
-    let loop = c .before .before .before .before .loop in
     let count = c .before .before .before .before .before .count in
-    let start = c .before .before .before .before .before .before .before .before .before in
-    let args = start .args in
-    let pre = start .pre in
+    let loop = c .before .before .before .before .loop in
+    let args = c .before .before .before .before .before .before .before .before .before .args in
+    let pre = c .before .before .before .before .before .before .before .before .before .pre in
     let p = probs (args .sat) (args .dissat) in
     let q = policyAt (args .pol .now) (args .r) in
     let again = againIn (args .context) q p in (
       below (omega arith) (pre .0),
       (
         loop .inv .0 .doing,
-        pair-offers (args .context) p again (pre .1 .1) (count .ensures) (loop .i) (loop .inv .0) (made .ensures),
+        pair-offers (args .context) p again (pre .1 .1) (count .ensures) (loop .i) (loop .inv .0) (c .before .made .ensures),
+        loop .inv .2,
       ),
     )
+
+pair-settles-requires : (t : ℕ) →
+    pair-lts.Need-settles-requires (pair-calls t) (pair-at t) pair.Post pair-Inv-loop pair-μ-loop
+pair-settles-requires t c κs =
+    let doing = c .before .before .before .before .before .before .before .before .before .loop .inv .0 .doing in
+    (doing .classed, (doing .named, c .before .before .before .before .wrapped-if-made .ensures .ready))
 
 pair-add-i : (t : ℕ) → pair-lts.Need-add-i (pair-calls t) (pair-at t) pair.Post pair-Inv-loop pair-μ-loop
 pair-add-i t c = search needs
 
 pair-loop-less : (t : ℕ) → pair-lts.Need-loop-less (pair-calls t) (pair-at t) pair.Post pair-Inv-loop pair-μ-loop
-pair-loop-less t c =
-    let loop-test = c .before .before .before .before .before .before .loop-test in
-    omega (arith, loop-test .taken)
+pair-loop-less t c = omega (arith, c .before .before .before .before .before .before .before .loop-test .taken)
 
 pair-loop-again : (t : ℕ) → pair-lts.Need-loop-again (pair-calls t) (pair-at t) pair.Post pair-Inv-loop pair-μ-loop
 pair-loop-again t c =
-    let wrapped-if-made = c .before .before .wrapped-if-made in
-    let made = c .before .before .before .before .made in
-    let at-loop-test = c .before .before .before .before .before .before in
-    let loop-test = at-loop-test .loop-test in
-    let loop = at-loop-test .before .loop in
-    let count = at-loop-test .before .before .count in
-    let start = at-loop-test .before .before .before .before .before .before in
-    let args = start .args in
-    let pre = start .pre in
+    let count = c .before .before .before .before .before .before .before .before .before .count in
+    let wrapped-if-made = c .before .before .before .wrapped-if-made in
+    let made = c .before .before .before .before .before .made in
+    let loop-test = c .before .before .before .before .before .before .before .loop-test in
+    let loop = c .before .before .before .before .before .before .before .before .loop in
+    let args = c .before .before .before .before .before .before .before .before .before .before .before .before .before .args in
+    let pre = c .before .before .before .before .before .before .before .before .before .before .before .before .before .pre in
     let p = probs (args .sat) (args .dissat) in
     let q = policyAt (args .pol .now) (args .r) in
     let again = againIn (args .context) q p in (
       pair-goes-on (args .context) p again (pre .1 .1) (count .ensures) (loop .i) (loop .inv .0) (loop-test .taken)
           (made .ensures) (wrapped-if-made .ensures),
       omega (arith, loop-test .taken),
+      ⊎-elim
+          (λ w. settled-from (args .context) (args .sat) (loop .inv .0 .doing) (made .result) (wrapped-if-made .ensures) (w .3 ∙ w .2 .ensures))
+          (λ w. settled-on (args .context) (args .sat) (loop .inv .0 .doing) (made .result) (wrapped-if-made .ensures) (w .1) (loop .inv .2))
+          (c .if1 .came),
     )
 
 pair-same-length : (t : ℕ) → pair-lts.Need-same-length (pair-calls t) (pair-at t) pair.Post pair-Inv-loop pair-μ-loop
-pair-same-length t c =
-    let loop = c .before .loop in
-    let pre = c .before .before .before .before .before .before .pre in
-    ready-long (pre .1 .0 .ready) (loop .inv .0 .doing .ready)
+pair-same-length t c = ready-long (c .before .before .before .before .before .before .pre .1 .0 .ready) (c .before .loop .inv .0 .doing .ready)
 
 pair-returns : (t : ℕ) → pair-lts.Need-returns (pair-calls t) (pair-at t) pair.Post pair-Inv-loop pair-μ-loop
 pair-returns t c =
     let eight : length (c .before .before .before .before .before .before .args .slots) ≡ 8 = search needs in
     let loop = c .before .loop in
-    let count = c .before .before .count in
-    let start = c .before .before .before .before .before .before in
-    let args = start .args in
-    let pre = start .pre in
+    let args = c .before .before .before .before .before .before .args in
+    let pre = c .before .before .before .before .before .before .pre in
     let p = probs (args .sat) (args .dissat) in
     let q = policyAt (args .pol .now) (args .r) in
-    let again = againIn (args .context) q p in
-    pair-ends (args .context) p again (pre .1 .1) (count .ensures) (loop .i) (loop .inv .0) eight (c .loop-test .left)
-    (loop .inv .1)
+    let again = againIn (args .context) q p in (
+      pair-ends (args .context) p again (pre .1 .1) (c .before .before .count .ensures) (loop .i) (loop .inv .0) eight (c .loop-test .left)
+          (loop .inv .1),
+      loop .inv .2,
+    )
 
 -- ---- pair_all
 
 abbrev pair-all-Inv-loop : pair-all-lts.InvT-loop
-pair-all-Inv-loop context pol work₀ r sat dissat k slots pairings done₀ i₀ work done i =
+pair-all-Inv-loop context pol work₀ r sat dissat k slots pairings done₀ settled₀ i₀ work done settled i =
     PairAllOn context (probs sat dissat) (againIn context (policyAt pol r) (probs sat dissat)) pol r dissat
     (take k pairings) slots done₀ work₀ i done work
     × ((i ≤ k) × ((length pairings ≡ 10) × (length slots ≡ 8)))
+    × SettledIf settled context pol r sat dissat done work
 
 abbrev pair-all-μ-loop : pair-all-lts.MeasureT-loop
-pair-all-μ-loop context pol work₀ r sat dissat k slots pairings done₀ i₀ work done i = k - i
+pair-all-μ-loop context pol work₀ r sat dissat k slots pairings done₀ settled₀ i₀ work done settled i = k - i
 
 abbrev pair-all-calls : ℕ → pair-all-lts.Claims
 pair-all-calls t = (pair-below t, pair.Post)
@@ -1658,14 +1677,14 @@ pair-all-loop-holds : (t : ℕ) →
 pair-all-loop-holds t c =
     let long : length (c .before .before .args .t7) ≡ 10 = search needs in
     let eight : length (c .before .before .args .slots) ≡ 8 = search needs in
-    let start = c .before .before in
-    let args = start .args in
-    let pre = start .pre in
+    let args = c .before .before .args in
+    let pre = c .before .before .pre in
     let p = probs (args .sat) (args .dissat) in
     let q = policyAt (args .pol .now) (args .r) in
     let again = againIn (args .context) q p in (
       pair-all-begins (args .context) p again (args .t7) (args .k) (args .slots) (pre .1 .1 .1) (pre .1 .0),
       (omega arith, (long, eight)),
+      unsettled,
     )
 
 pair-all-mul-a : (t : ℕ) →
@@ -1683,9 +1702,8 @@ pair-all-pair-requires : (t : ℕ) →
 pair-all-pair-requires t c κs =
     let loop-test = c .before .before .loop-test in
     let loop = c .before .before .before .loop in
-    let start = c .before .before .before .before .before .before in
-    let args = start .args in
-    let pre = start .pre in
+    let args = c .before .before .before .before .before .before .args in
+    let pre = c .before .before .before .before .before .before .pre in
     let p = probs (args .sat) (args .dissat) in
     let q = policyAt (args .pol .now) (args .r) in
     let again = againIn (args .context) q p in (
@@ -1694,37 +1712,37 @@ pair-all-pair-requires t c κs =
         loop .inv .0 .doing,
         pair-all-pairs (args .context) p again (args .t7) (args .k) (args .slots) (pre .1 .1 .1)
             (omega (arith, loop .inv .1 .1 .0, pre .1 .1 .0)) (loop .i) (loop .inv .0) (loop-test .taken) noPairing refl,
+        loop .inv .2,
       ),
     )
 
 pair-all-add-i : (t : ℕ) →
     pair-all-lts.Need-add-i (pair-all-calls t) (pair-all-at t) pair-all.Post pair-all-Inv-loop pair-all-μ-loop
 pair-all-add-i t c =
-    let loop-test = c .before .before .before .before .before .loop-test in
-    let pre = c .before .before .before .before .before .before .before .before .before .pre in
+    let loop-test = c .before .before .before .before .before .before .loop-test in
+    let pre = c .before .before .before .before .before .before .before .before .before .before .pre in
     omega (arith, loop-test .taken, pre .1 .1 .0)
 
 pair-all-loop-less : (t : ℕ) →
     pair-all-lts.Need-loop-less (pair-all-calls t) (pair-all-at t) pair-all.Post pair-all-Inv-loop pair-all-μ-loop
-pair-all-loop-less t c = omega (arith, c .before .before .before .before .before .loop-test .taken)
+pair-all-loop-less t c = omega (arith, c .before .before .before .before .before .before .loop-test .taken)
 
 pair-all-loop-again : (t : ℕ) →
     pair-all-lts.Need-loop-again (pair-all-calls t) (pair-all-at t) pair-all.Post pair-all-Inv-loop pair-all-μ-loop
 pair-all-loop-again t c =
-    let pair = c .before .before .pair in
-    let loop-test = c .before .before .before .before .before .loop-test in
-    let at-loop = c .before .before .before .before .before .before in
-    let loop = at-loop .loop in
-    let start = at-loop .before .before .before in
-    let args = start .args in
-    let pre = start .pre in
+    let pair = c .before .before .before .pair in
+    let loop-test = c .before .before .before .before .before .before .loop-test in
+    let loop = c .before .before .before .before .before .before .before .loop in
+    let args = c .before .before .before .before .before .before .before .before .before .before .args in
+    let pre = c .before .before .before .before .before .before .before .before .before .before .pre in
     let p = probs (args .sat) (args .dissat) in
     let q = policyAt (args .pol .now) (args .r) in
     let again = againIn (args .context) q p in (
       pair-all-goes-on (args .context) p again (args .t7) (args .k) (args .slots) (pre .1 .1 .1)
           (omega (arith, loop .inv .1 .1 .0, pre .1 .1 .0)) (loop .i) (loop .inv .0) (loop-test .taken) noPairing refl
-          (loop .inv .1 .1 .1) (pair .ensures),
+          (loop .inv .1 .1 .1) (pair .ensures .0),
       (omega (arith, loop-test .taken), loop .inv .1 .1),
+      pair .ensures .1,
     )
 
 pair-all-same-length : (t : ℕ) →
@@ -1738,9 +1756,8 @@ pair-all-returns : (t : ℕ) →
     pair-all-lts.Need-returns (pair-all-calls t) (pair-all-at t) pair-all.Post pair-all-Inv-loop pair-all-μ-loop
 pair-all-returns t c =
     let loop = c .before .loop in
-    let start = c .before .before .before .before in
-    let args = start .args in
-    let pre = start .pre in
+    let args = c .before .before .before .before .args in
+    let pre = c .before .before .before .before .pre in
     let p = probs (args .sat) (args .dissat) in
     let q = policyAt (args .pol .now) (args .r) in
     let again = againIn (args .context) q p in
@@ -2188,6 +2205,7 @@ thresh-body-wrapped-if-made-requires t c κs =
         made-doing (pre .1 .0) (pre .1 .1) (all-bests .ensures) (enum-told .given .1) (thresh-made .ensures)
             (c .empty2 .ensures),
         thresh-offers (thresh-made .ensures),
+        unsettled,
       ),
     )
 
@@ -2295,13 +2313,11 @@ wrapped-enum-told-3 t c = search needs
 
 wrapped-casts-of-requires : (t : ℕ) → wrapped-lts.Need-casts-of-requires (wrapped-calls t) (wrapped-at t) wrapped.Post
 wrapped-casts-of-requires t c κs =
-    let enum-told3 = c .before .enum-told3 in
-    let insert-closure = c .before .before .before .before .before .insert-closure in
-    let at-enum-told = c .before .before .before .before .before .before .before in
-    let enum-told = at-enum-told .enum-told in
-    let start = at-enum-told .before .before .before .before .before in
-    let args = start .args in
-    let pre = start .pre in (
+    let enum-told = c .before .before .before .before .before .before .before .before .enum-told in
+    let insert-closure = c .before .before .before .before .before .before .insert-closure in
+    let enum-told3 = c .before .before .enum-told3 in
+    let args = c .before .before .before .before .before .before .before .before .before .before .before .before .before .args in
+    let pre = c .before .before .before .before .before .before .before .before .before .before .before .before .before .pre in (
       below (omega arith) (pre .0),
       (
         wrapped-doing (args .context) (args .sat) (pre .1 .0) (enum-told .given .1) (insert-closure .ensures),
@@ -2309,39 +2325,44 @@ wrapped-casts-of-requires t c κs =
       ),
     )
 
-wrapped-returns : (t : ℕ) → wrapped-lts.Need-returns (wrapped-calls t) (wrapped-at t) wrapped.Post
-wrapped-returns t c =
-    let end = c .before .end in
-    let pre = c .before .before .before .before .before .before .pre in
-    stops (pre .1 .0) _ (end .given .1)
-
 wrapped-same-length : (t : ℕ) → wrapped-lts.Need-same-length (wrapped-calls t) (wrapped-at t) wrapped.Post
 wrapped-same-length t c = search needs
 
+wrapped-returns : (t : ℕ) → wrapped-lts.Need-returns (wrapped-calls t) (wrapped-at t) wrapped.Post
+wrapped-returns t c =
+    let enum-told = c .before .before .before .before .before .before .before .enum-told in
+    let insert-closure = c .before .before .before .before .before .insert-closure in
+    let args = c .before .before .before .before .before .before .before .before .before .before .before .before .args in
+    let pre = c .before .before .before .before .before .before .before .before .before .before .before .before .pre in
+    wrapped-settled (args .context) (args .sat) (pre .1 .0) (enum-told .given .1) (insert-closure .ensures) (c .before .enum-told3 .given .1)
+    (c .if1 .taken) (pre .1 .2)
+
 wrapped-returns-2 : (t : ℕ) → wrapped-lts.Need-returns-2 (wrapped-calls t) (wrapped-at t) wrapped.Post
-wrapped-returns-2 t c =
-    let insert-closure = c .before .before .before .before .insert-closure in
-    let at-enum-told = c .before .before .before .before .before .before in
-    let enum-told = at-enum-told .enum-told in
-    let start = at-enum-told .before .before .before .before .before in
-    let args = start .args in
-    let pre = start .pre in
-    wrapped-plain (args .context) (args .sat) (pre .1 .0) (enum-told .given .1) (insert-closure .ensures)
-    (c .enum-told2 .given .1)
+wrapped-returns-2 t c = stops (c .before .before .before .before .before .before .pre .1 .0) _ (c .before .end .given .1)
 
 wrapped-same-length-2 : (t : ℕ) → wrapped-lts.Need-same-length-2 (wrapped-calls t) (wrapped-at t) wrapped.Post
 wrapped-same-length-2 t c = search needs
 
 wrapped-returns-3 : (t : ℕ) → wrapped-lts.Need-returns-3 (wrapped-calls t) (wrapped-at t) wrapped.Post
 wrapped-returns-3 t c =
+    let pre = c .before .before .before .before .before .before .before .before .before .before .before .pre in
+    let enum-told = c .before .before .before .before .before .before .enum-told in
+    let insert-closure = c .before .before .before .before .insert-closure in
+    let args = c .before .before .before .before .before .before .before .before .before .before .before .args in
+    wrapped-plain (args .context) (args .sat) (pre .1 .0) (enum-told .given .1) (insert-closure .ensures)
+    (c .enum-told2 .given .1)
+
+wrapped-same-length-3 : (t : ℕ) → wrapped-lts.Need-same-length-3 (wrapped-calls t) (wrapped-at t) wrapped.Post
+wrapped-same-length-3 t c = search needs
+
+wrapped-returns-4 : (t : ℕ) → wrapped-lts.Need-returns-4 (wrapped-calls t) (wrapped-at t) wrapped.Post
+wrapped-returns-4 t c =
+    let pre = c .before .before .before .before .before .before .before .before .before .before .before .before .before .before .before .before .pre in
+    let enum-told = c .before .before .before .before .before .before .before .before .before .before .before .enum-told in
+    let insert-closure = c .before .before .before .before .before .before .before .before .before .insert-closure in
+    let enum-told3 = c .before .before .before .before .before .enum-told3 in
     let casts-of = c .before .before .casts-of in
-    let enum-told3 = c .before .before .before .before .enum-told3 in
-    let at-insert-closure = c .before .before .before .before .before .before .before .before in
-    let insert-closure = at-insert-closure .insert-closure in
-    let enum-told = at-insert-closure .before .before .enum-told in
-    let start = at-insert-closure .before .before .before .before .before .before .before in
-    let args = start .args in
-    let pre = start .pre in
+    let args = c .before .before .before .before .before .before .before .before .before .before .before .before .before .before .before .before .args in
     wrapped-casts (args .context) (args .sat) (pre .1 .0) (enum-told .given .1) (insert-closure .ensures) (enum-told3 .given .1)
     (casts-of .ensures)
 
@@ -2359,7 +2380,7 @@ wrapped-if-made-wrapped-requires : (t : ℕ) →
 wrapped-if-made-wrapped-requires t c κs =
     let x = c .before .before .x in
     let pre = c .before .before .before .before .before .before .pre in
-    (below (omega arith) (pre .0), (pre .1 .0, pre .1 .1 .offers _ (x .given .1)))
+    (below (omega arith) (pre .0), (pre .1 .0, pre .1 .1 .offers _ (x .given .1), pre .1 .2))
 
 wrapped-if-made-enum-told : (t : ℕ) →
     wrapped-if-made-lts.Need-enum-told (wrapped-if-made-calls t) (wrapped-if-made-at t) wrapped-if-made.Post
@@ -2586,6 +2607,7 @@ pub +all-bests+and-body+and-ors+best-of+body+cast-once+casts-of+folded+leaves+mu
     (leaves-pk-h-requires t)
     (leaves-empty-requires t)
     (leaves-wrapped-requires t)
+    (leaves-settles-requires t)
     (leaves-cast-pk-k t)
     (leaves-pk-k-requires t)
     (leaves-wrapped-requires-2 t)
@@ -2631,6 +2653,7 @@ pub +all-bests+and-body+and-ors+best-of+body+cast-once+casts-of+folded+leaves+mu
     (pair-loop-holds t)
     (pair-made-requires t)
     (pair-wrapped-if-made-requires t)
+    (pair-settles-requires t)
     (pair-add-i t)
     (pair-loop-less t)
     (pair-loop-again t)
@@ -2728,12 +2751,14 @@ pub +all-bests+and-body+and-ors+best-of+body+cast-once+casts-of+folded+leaves+mu
     (wrapped-insert-closure-requires t)
     (wrapped-enum-told-2 t)
     (wrapped-enum-told-3 t)
-    (wrapped-casts-of-requires t)
-    (wrapped-returns t)
     (wrapped-same-length t)
+    (wrapped-returns t)
+    (wrapped-casts-of-requires t)
     (wrapped-returns-2 t)
     (wrapped-same-length-2 t)
-    (wrapped-returns-3 t))
+    (wrapped-returns-3 t)
+    (wrapped-same-length-3 t)
+    (wrapped-returns-4 t))
     λ t. wrapped-if-made-lts.spec (wrapped-if-made-calls t)
     (wrapped-if-made-at t)
     wrapped-if-made.Post
