@@ -25,7 +25,7 @@ enum {
     CLASPWILLOW_LIMITS_EXCEEDED = 11,
     CLASPWILLOW_TOP_LEVEL_NON_SAFE = 12,
     CLASPWILLOW_OUTPUT_TOO_SMALL = 13,
-    CLASPWILLOW_BAD_TREE = 14,
+    CLASPWILLOW_BAD_TREE = 14, /* of a replay, a broken log too */
     CLASPWILLOW_ILL_TYPED = 15,
     CLASPWILLOW_TREE_TOO_LARGE = 16,
     CLASPWILLOW_NO_ENTRY = 17,
@@ -92,6 +92,17 @@ uint32_t claspwillow_witness(uint32_t context, const uint8_t *tree, uint64_t tre
 
 /* The one length of `work`, in words, that claspwillow_witness takes. */
 uint64_t claspwillow_witness_work(void);
+
+/* Runs every recorded spend of a log again (docs/ENTRIES.md has the log's form). Writes a report of 8 bytes for each entry to the front of
+ * `reports`, in the log's order: the entry's number, then 0 if the run agrees with what was recorded, 1 if it differs, 2 if the outcomes are
+ * mismatched or 3 if it is too large, 4 bytes each, the least significant first; *entries says how many there are. On a refusal *entries is 0
+ * and `reports` is as it was.
+ * `work` is lent: claspwillow_replay_work() words, of any content; they are all zero afterwards, whatever the call gives. */
+uint32_t claspwillow_replay(const uint8_t *log, uint64_t log_len, uint8_t *reports, uint64_t reports_len, uint64_t *work, uint64_t work_len,
+                            uint64_t *entries);
+
+/* The one length of `work`, in words, that claspwillow_replay takes. */
+uint64_t claspwillow_replay_work(void);
 
 #ifdef __cplusplus
 }

@@ -5,39 +5,39 @@ use crate::outline::Outline;
 /// The most bytes that a push of one length byte holds.
 const PUSH_MAX: usize = 75;
 
-const IF: u8 = 0x63;
-const NOTIF: u8 = 0x64;
-const ELSE: u8 = 0x67;
-const ENDIF: u8 = 0x68;
-const VERIFY: u8 = 0x69;
-const TOALTSTACK: u8 = 0x6b;
-const FROMALTSTACK: u8 = 0x6c;
-const IFDUP: u8 = 0x73;
-const DUP: u8 = 0x76;
-const SWAP: u8 = 0x7c;
-const SIZE: u8 = 0x82;
-const EQUAL: u8 = 0x87;
-const EQUALVERIFY: u8 = 0x88;
-const ZERONOTEQUAL: u8 = 0x92;
-const ADD: u8 = 0x93;
+pub const IF: u8 = 0x63;
+pub const NOTIF: u8 = 0x64;
+pub const ELSE: u8 = 0x67;
+pub const ENDIF: u8 = 0x68;
+pub const VERIFY: u8 = 0x69;
+pub const TOALTSTACK: u8 = 0x6b;
+pub const FROMALTSTACK: u8 = 0x6c;
+pub const IFDUP: u8 = 0x73;
+pub const DUP: u8 = 0x76;
+pub const SWAP: u8 = 0x7c;
+pub const SIZE: u8 = 0x82;
+pub const EQUAL: u8 = 0x87;
+pub const EQUALVERIFY: u8 = 0x88;
+pub const ZERONOTEQUAL: u8 = 0x92;
+pub const ADD: u8 = 0x93;
 pub const BOOLAND: u8 = 0x9a;
-const BOOLOR: u8 = 0x9b;
-const NUMEQUAL: u8 = 0x9c;
-const NUMEQUALVERIFY: u8 = 0x9d;
-const RIPEMD160: u8 = 0xa6;
-const SHA256: u8 = 0xa8;
-const HASH160: u8 = 0xa9;
-const HASH256: u8 = 0xaa;
-const CHECKSIG: u8 = 0xac;
-const CHECKSIGVERIFY: u8 = 0xad;
-const CHECKMULTISIG: u8 = 0xae;
-const CHECKMULTISIGVERIFY: u8 = 0xaf;
-const CHECKLOCKTIMEVERIFY: u8 = 0xb1;
-const CHECKSEQUENCEVERIFY: u8 = 0xb2;
-const CHECKSIGADD: u8 = 0xba;
+pub const BOOLOR: u8 = 0x9b;
+pub const NUMEQUAL: u8 = 0x9c;
+pub const NUMEQUALVERIFY: u8 = 0x9d;
+pub const RIPEMD160: u8 = 0xa6;
+pub const SHA256: u8 = 0xa8;
+pub const HASH160: u8 = 0xa9;
+pub const HASH256: u8 = 0xaa;
+pub const CHECKSIG: u8 = 0xac;
+pub const CHECKSIGVERIFY: u8 = 0xad;
+pub const CHECKMULTISIG: u8 = 0xae;
+pub const CHECKMULTISIGVERIFY: u8 = 0xaf;
+pub const CHECKLOCKTIMEVERIFY: u8 = 0xb1;
+pub const CHECKSEQUENCEVERIFY: u8 = 0xb2;
+pub const CHECKSIGADD: u8 = 0xba;
 
 /// One word of a script.
-enum Word {
+pub enum Word {
     Op(u8),
     Push(Vec<u8>),
 }
@@ -156,12 +156,17 @@ fn write(word: &Word, out: &mut Vec<u8>) {
     }
 }
 
-/// The script of a tree.
-pub fn script(tree: &Outline) -> Vec<u8> {
+/// The words of a tree's script.
+pub fn words(tree: &Outline) -> Vec<Word> {
     let mut words = Vec::new();
     add(tree, &mut words);
+    words
+}
+
+/// The script of a tree.
+pub fn script(tree: &Outline) -> Vec<u8> {
     let mut out = Vec::new();
-    for word in &words {
+    for word in &words(tree) {
         write(word, &mut out);
     }
     out

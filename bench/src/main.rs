@@ -67,6 +67,7 @@ mod room;
 mod scripts;
 #[cfg(port)]
 mod speed;
+mod spends;
 mod tapscript;
 mod trees;
 #[cfg(port)]
@@ -94,6 +95,9 @@ const USAGE: &str = "usage:
   bench speed [all | port]             times the Rust's unmodified compiler and the port over 200 policies; `all` says a line for each policy,
                                        `port` runs the port alone and says nothing, for a profiler
   bench differ SEED COUNT MAXRECORDS   runs COUNT pairs of trees of each sort and context through a walk of its own and the port
+  bench spends SEED COUNT              runs logs with COUNT recorded spends of each context through an interpreter of its own and the port
+  bench spends-speed                   times that interpreter and the port over 10,000 recorded spends
+  bench spends-log                     writes the example log of the program `spends`, crates/spends/data/example.log
   bench witness SEED COUNT             runs COUNT random trees of each flavour and context, small ones and compiled ones through every way and the port
 ";
 
@@ -220,6 +224,33 @@ fn witness(_: [&str; 2]) -> Result<bool, String> {
     no_port()
 }
 
+#[cfg(port)]
+fn spends(words: [&str; 2]) -> Result<bool, String> {
+    Ok(spends::run(number(words[0])?, number(words[1])?))
+}
+
+#[cfg(not(port))]
+fn spends(_: [&str; 2]) -> Result<bool, String> {
+    no_port()
+}
+
+#[cfg(port)]
+fn spends_speed() -> Result<bool, String> {
+    Ok(spends::speed())
+}
+
+#[cfg(not(port))]
+fn spends_speed() -> Result<bool, String> {
+    no_port()
+}
+
+/// Writes the example log.
+fn spends_log() -> Result<bool, String> {
+    let bytes = spends::example_bytes().map_err(|message| format!("bench: {message}\n"))?;
+    io::stdout().lock().write_all(&bytes).map_err(|e| format!("bench: {e}\n"))?;
+    Ok(true)
+}
+
 /// Whether all is well; or what is wrong with the words.
 fn run(words: &[&str]) -> Result<bool, String> {
     match *words {
@@ -241,6 +272,9 @@ fn run(words: &[&str]) -> Result<bool, String> {
         ["speed"] => speed(""),
         ["speed", word] => speed(word),
         ["differ", seed, count, records] => differ([seed, count, records]),
+        ["spends", seed, count] => spends([seed, count]),
+        ["spends-speed"] => spends_speed(),
+        ["spends-log"] => spends_log(),
         ["witness", seed, count] => witness([seed, count]),
         ["figures"] => Ok(figures::run()),
         ["decode", seed, count, records] => {

@@ -64,6 +64,16 @@ extern "C" {
         largest: *mut u64,
     ) -> u32;
     fn claspwillow_witness_work() -> u64;
+    fn claspwillow_replay(
+        log: *const u8,
+        log_len: u64,
+        reports: *mut u8,
+        reports_len: u64,
+        work: *mut u64,
+        work_len: u64,
+        entries: *mut u64,
+    ) -> u32;
+    fn claspwillow_replay_work() -> u64;
 }
 
 /// The words of work memory that the check asks for.
@@ -181,4 +191,16 @@ pub fn witness_work() -> usize {
 pub fn witness(context: u32, tree: &[u8], work: &mut [u64], found: &mut u32, smallest: &mut u64, largest: &mut u64) -> u32 {
     // SAFETY: each slice is passed as its own pointer and length, and each result as a pointer to one number.
     unsafe { claspwillow_witness(context, tree.as_ptr(), tree.len() as u64, work.as_mut_ptr(), work.len() as u64, found, smallest, largest) }
+}
+
+/// The words of work memory that replay asks for.
+pub fn replay_work() -> usize {
+    // SAFETY: the function takes nothing.
+    unsafe { claspwillow_replay_work() as usize }
+}
+
+/// The number, and the count of entries as the call left it.
+pub fn replay(log: &[u8], reports: &mut [u8], work: &mut [u64], entries: &mut u64) -> u32 {
+    // SAFETY: each slice is passed as its own pointer and length, and the result as a pointer to one number.
+    unsafe { claspwillow_replay(log.as_ptr(), log.len() as u64, reports.as_mut_ptr(), reports.len() as u64, work.as_mut_ptr(), work.len() as u64, entries) }
 }

@@ -159,7 +159,7 @@ fn run_case(desk: &mut Desk, tally: &mut decode::Tally, random: &mut Random, cas
 }
 
 /// Tables for a well-formed tree: each ends with the last entry that it needs, if there is room for it.
-fn fitting(random: &mut Random, context: u32, tree: &[u8]) -> Tables {
+pub fn fitting(random: &mut Random, context: u32, tree: &[u8]) -> Tables {
     let mut entries = [0; 4];
     for (table, number) in trees::numbers(tree) {
         if number < 1_000 {

@@ -56,7 +56,7 @@ impl Time {
 }
 
 /// The middle one of the numbers, the upper of two.
-fn median<T: Copy + PartialOrd>(mut list: Vec<T>) -> T {
+pub fn median<T: Copy + PartialOrd>(mut list: Vec<T>) -> T {
     list.sort_by(|x, y| x.partial_cmp(y).expect("numbers have an order"));
     list[list.len() / 2]
 }
@@ -120,7 +120,7 @@ fn now() -> u64 {
 }
 
 /// Nanoseconds that something takes.
-fn timed<T>(run: impl FnOnce() -> T) -> u64 {
+pub fn timed<T>(run: impl FnOnce() -> T) -> u64 {
     let began = now();
     black_box(run());
     now() - began
@@ -234,7 +234,7 @@ fn group_row(name: &str, group: &[(&Case, &Time)]) {
 }
 
 /// The processor's own name, where the system tells it.
-fn processor() -> String {
+pub fn processor() -> String {
     let text = fs::read_to_string("/proc/cpuinfo").unwrap_or_default();
     let named = text.lines().find_map(|line| line.strip_prefix("model name")).and_then(|rest| rest.split_once(": "));
     format!("{} ({})", named.map_or("a processor without a name", |(_, name)| name.trim()), std::env::consts::ARCH)

@@ -368,7 +368,7 @@ fn entries_at(
 }
 
 // Whether the numbers of each of `count` records have whole entries.
-fn all_entries(
+pub fn all_entries(
     context: Context,
     tree: &[u8],
     keys: &[u8],

@@ -171,7 +171,7 @@ pub fn put_counted(out: &mut [u8], at: usize, k: u32, n: u8, verified: bool) -> 
 }
 
 // Lays bytes as they are.
-fn put_bytes(out: &mut [u8], at: usize, bytes: &[u8]) -> usize
+pub fn put_bytes(out: &mut [u8], at: usize, bytes: &[u8]) -> usize
     ensures { λ r. ⌜ Lays (now (out .entry)) (now (out .exit)) at (now (bytes .entry)) r ⌝ }
 {
     let mut to = at;

@@ -26,7 +26,7 @@ use Rattle.spend_asks.specs.declared.Said.the-variants as Said
 use Rattle.spend_asks.specs.Answers.{answered, firstOf, saidBy, saidOf}
 
 -- a u32 of a log of bytes, and a range of the log as an element
-u32-small : (log : List ℕ) → ((i : ℕ) → getD log i 0 < 256) → (at : ℕ) → u32 log at < 4294967296
+pub u32-small : (log : List ℕ) → ((i : ℕ) → getD log i 0 < 256) → (at : ℕ) → u32 log at < 4294967296
 u32-small log bytes at = go (hasBytes 4 log at) refl
   where
     go : (b : Bool) → hasBytes 4 log at ≡ b → u32 log at < 4294967296
@@ -35,7 +35,7 @@ u32-small log bytes at = go (hasBytes 4 log at) refl
         rw (found-4 log at e) (omega arith)
     go false e = rw (missing 4 log at e) (omega arith)
 
-range : (log : List ℕ) → ((i : ℕ) → getD log i 0 < 256) → (at : ℕ)
+pub range : (log : List ℕ) → ((i : ℕ) → getD log i 0 < 256) → (at : ℕ)
     → bytesIn log (record { at = elementAt log at .start; len = elementAt log at .len })
     ≡ take (elementAt log at .len) (drop (elementAt log at .start) log)
 range log bytes at = in-range log (record { at = elementAt log at .start; len = elementAt log at .len }) (u32-small log bytes at)

@@ -1,0 +1,5 @@
+-- Why the contracts hold.
+pub mod Telling
+pub mod Following
+pub mod Judged
+pub mod Promised

@@ -1,0 +1,5 @@
+-- Why the contracts hold.
+pub mod Ranges
+pub mod Laws
+pub mod Pieces
+pub mod Multis

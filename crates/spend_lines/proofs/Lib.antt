@@ -1,0 +1,4 @@
+-- Why the contracts hold.
+pub mod Digits
+pub mod Texts
+pub mod Blocks

@@ -1,0 +1,4 @@
+-- Why the contracts hold.
+pub mod Turning
+pub mod Continuing
+pub mod Recursion
