@@ -104,6 +104,25 @@ uint32_t claspwillow_replay(const uint8_t *log, uint64_t log_len, uint8_t *repor
 /* The one length of `work`, in words, that claspwillow_replay takes. */
 uint64_t claspwillow_replay_work(void);
 
+/* Writes the index of a fragment tree to the front of `out`: 16 bytes for each record, record 0 first, and in *bytes how many in all. An entry is the
+ * packed type, the height, the first byte and the length of the record's fragment in the script, 4 bytes each, the least significant first. On a
+ * refusal *bytes is 0 and `out` is as it was.
+ * `work` is lent: claspwillow_index_work() words, of any content; they are all zero afterwards, whatever the call gives. */
+uint32_t claspwillow_index(uint32_t context, const uint8_t *tree, uint64_t tree_len, uint8_t *out, uint64_t out_len, uint64_t *work,
+                           uint64_t work_len, uint64_t *bytes);
+
+/* The one length of `work`, in words, that claspwillow_index takes. */
+uint64_t claspwillow_index_work(void);
+
+/* Looks byte `at` of a tree's script up, the first being 0: *found is 1 if the script has it, and *record is then the record of the innermost fragment
+ * that holds it; else, and on a refusal, both are 0. 20 is given where `index` is not what claspwillow_index writes for the tree.
+ * `work` is lent: claspwillow_find_work() words, of any content; they are all zero afterwards, whatever the call gives. */
+uint32_t claspwillow_find(uint32_t context, const uint8_t *tree, uint64_t tree_len, const uint8_t *index, uint64_t index_len, uint64_t at,
+                          uint64_t *work, uint64_t work_len, uint32_t *found, uint32_t *record);
+
+/* The one length of `work`, in words, that claspwillow_find takes. */
+uint64_t claspwillow_find_work(void);
+
 #ifdef __cplusplus
 }
 #endif

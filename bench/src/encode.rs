@@ -116,10 +116,18 @@ fn line(tree: &Outline) -> Vec<Part> {
     }
 }
 
+/// The words that a fragment added, from one place to another, and those of its children. A word that v:X changes stays X's.
+struct Span {
+    from: usize,
+    to: usize,
+    children: Vec<Span>,
+}
+
 /// Adds the words of a tree; v:X is the VERIFY form of the last opcode of X, if it has one, and else X and VERIFY.
-fn add(tree: &Outline, words: &mut Vec<Word>) {
+fn add(tree: &Outline, words: &mut Vec<Word>) -> Span {
+    let from = words.len();
     if tree.kind == 46 {
-        add(&tree.children[0], words);
+        let child = add(&tree.children[0], words);
         match words.last_mut() {
             Some(last @ Op(EQUAL)) => *last = Op(EQUALVERIFY),
             Some(last @ Op(NUMEQUAL)) => *last = Op(NUMEQUALVERIFY),
@@ -127,16 +135,19 @@ fn add(tree: &Outline, words: &mut Vec<Word>) {
             Some(last @ Op(CHECKMULTISIG)) => *last = Op(CHECKMULTISIGVERIFY),
             _ => words.push(Op(VERIFY)),
         }
-        return;
+        return Span { from, to: words.len(), children: vec![child] };
     }
+    let mut children = Vec::new();
     for part in line(tree) {
         match part {
-            Part::Child(i) => add(&tree.children[i], words),
+            Part::Child(i) => children.push((i, add(&tree.children[i], words))),
             Part::Opcode(op) => words.push(Op(op)),
             Part::Number(n) => words.push(number(n)),
             Part::Bytes(i) => words.push(Push(tree.pushes[i].clone())),
         }
     }
+    children.sort_by_key(|&(i, _)| i);
+    Span { from, to: words.len(), children: children.into_iter().map(|(_, child)| child).collect() }
 }
 
 /// A word's bytes: an opcode is one; the shortest push is an opcode for the empty string, 1 to 16 and 0x81, and else the length and the bytes.
@@ -170,4 +181,25 @@ pub fn script(tree: &Outline) -> Vec<u8> {
         write(word, &mut out);
     }
     out
+}
+
+/// The script of a tree, and the first byte and the length of each fragment by the number of its record: the root's, and for each record its children's.
+pub fn ranges(tree: &Outline, root: usize, children: &[Vec<usize>]) -> (Vec<u8>, Vec<(usize, usize)>) {
+    fn tell(span: &Span, record: usize, children: &[Vec<usize>], starts: &[usize], ranges: &mut [(usize, usize)]) {
+        ranges[record] = (starts[span.from], starts[span.to] - starts[span.from]);
+        for (child, &number) in span.children.iter().zip(&children[record]) {
+            tell(child, number, children, starts, ranges);
+        }
+    }
+    let mut words = Vec::new();
+    let span = add(tree, &mut words);
+    let mut out = Vec::new();
+    let mut starts = vec![0];
+    for word in &words {
+        write(word, &mut out);
+        starts.push(out.len());
+    }
+    let mut ranges = vec![(0, 0); children.len()];
+    tell(&span, root, children, &starts, &mut ranges);
+    (out, ranges)
 }

@@ -53,6 +53,8 @@ mod decode;
 mod differ;
 mod encode;
 mod figures;
+#[cfg(port)]
+mod index;
 mod oracle;
 mod outline;
 mod policies;
@@ -98,6 +100,7 @@ const USAGE: &str = "usage:
   bench spends SEED COUNT              runs logs with COUNT recorded spends of each context through an interpreter of its own and the port
   bench spends-speed                   times that interpreter and the port over 10,000 recorded spends
   bench spends-log                     writes the example log of the program `spends`, crates/spends/data/example.log
+  bench index SEED COUNT MAXRECORDS    runs COUNT random trees of each flavour and context through the bench's own encoder, byte by byte, and the port
   bench witness SEED COUNT             runs COUNT random trees of each flavour and context, small ones and compiled ones through every way and the port
 ";
 
@@ -215,6 +218,17 @@ fn differ(_: [&str; 3]) -> Result<bool, String> {
 }
 
 #[cfg(port)]
+fn index(words: [&str; 3]) -> Result<bool, String> {
+    let (seed, count, records) = numbers(words, 4_096)?;
+    Ok(index::run(seed, count, records))
+}
+
+#[cfg(not(port))]
+fn index(_: [&str; 3]) -> Result<bool, String> {
+    no_port()
+}
+
+#[cfg(port)]
 fn witness(words: [&str; 2]) -> Result<bool, String> {
     Ok(witness::run(number(words[0])?, number(words[1])?))
 }
@@ -275,6 +289,7 @@ fn run(words: &[&str]) -> Result<bool, String> {
         ["spends", seed, count] => spends([seed, count]),
         ["spends-speed"] => spends_speed(),
         ["spends-log"] => spends_log(),
+        ["index", seed, count, records] => index([seed, count, records]),
         ["witness", seed, count] => witness([seed, count]),
         ["figures"] => Ok(figures::run()),
         ["decode", seed, count, records] => {

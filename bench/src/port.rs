@@ -74,6 +74,30 @@ extern "C" {
         entries: *mut u64,
     ) -> u32;
     fn claspwillow_replay_work() -> u64;
+    fn claspwillow_index(
+        context: u32,
+        tree: *const u8,
+        tree_len: u64,
+        out: *mut u8,
+        out_len: u64,
+        work: *mut u64,
+        work_len: u64,
+        bytes: *mut u64,
+    ) -> u32;
+    fn claspwillow_index_work() -> u64;
+    fn claspwillow_find(
+        context: u32,
+        tree: *const u8,
+        tree_len: u64,
+        index: *const u8,
+        index_len: u64,
+        at: u64,
+        work: *mut u64,
+        work_len: u64,
+        found: *mut u32,
+        record: *mut u32,
+    ) -> u32;
+    fn claspwillow_find_work() -> u64;
 }
 
 /// The words of work memory that the check asks for.
@@ -203,4 +227,43 @@ pub fn replay_work() -> usize {
 pub fn replay(log: &[u8], reports: &mut [u8], work: &mut [u64], entries: &mut u64) -> u32 {
     // SAFETY: each slice is passed as its own pointer and length, and the result as a pointer to one number.
     unsafe { claspwillow_replay(log.as_ptr(), log.len() as u64, reports.as_mut_ptr(), reports.len() as u64, work.as_mut_ptr(), work.len() as u64, entries) }
+}
+
+/// The words of work memory that index asks for.
+pub fn index_work() -> usize {
+    // SAFETY: the function takes nothing.
+    unsafe { claspwillow_index_work() as usize }
+}
+
+/// The number, and the count of bytes as the call left it.
+pub fn index(context: u32, tree: &[u8], out: &mut [u8], work: &mut [u64], bytes: &mut u64) -> u32 {
+    // SAFETY: each slice is passed as its own pointer and length, and the result as a pointer to one word.
+    unsafe {
+        claspwillow_index(context, tree.as_ptr(), tree.len() as u64, out.as_mut_ptr(), out.len() as u64, work.as_mut_ptr(), work.len() as u64, bytes)
+    }
+}
+
+/// The words of work memory that find asks for.
+pub fn find_work() -> usize {
+    // SAFETY: the function takes nothing.
+    unsafe { claspwillow_find_work() as usize }
+}
+
+/// The number, and whether a fragment was found and its record as the call left them.
+pub fn find(context: u32, tree: &[u8], index: &[u8], at: u64, work: &mut [u64], found: &mut u32, record: &mut u32) -> u32 {
+    // SAFETY: each slice is passed as its own pointer and length, and each result as a pointer to one number.
+    unsafe {
+        claspwillow_find(
+            context,
+            tree.as_ptr(),
+            tree.len() as u64,
+            index.as_ptr(),
+            index.len() as u64,
+            at,
+            work.as_mut_ptr(),
+            work.len() as u64,
+            found,
+            record,
+        )
+    }
 }

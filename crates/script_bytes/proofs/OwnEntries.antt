@@ -36,7 +36,7 @@ module _ (c : Context) (t : Tables) where
   unfolding every
   two-entries x y = rw (and-true (hasEntries c t y))
 
-  own-and-children : OwnAndChildren _&&_ true (hasEntries c t) (ownEntries c t)
+  pub own-and-children : OwnAndChildren _&&_ true (hasEntries c t) (ownEntries c t)
   unfolding hasEntries ownEntries childrenIn every
   own-and-children False = refl
   own-and-children True = refl

@@ -43,7 +43,7 @@ step P low kind l here later = by-test (eqb kind low) refl
 -- ---- the number of children by kind
 
 -- which of the children comes as number j is one of them
-place-one : (kind count j : ℕ) → j < arity kind count → place kind j < arity kind count
+pub place-one : (kind count j : ℕ) → j < arity kind count → place kind j < arity kind count
 place-one kind count j h = by-kind (eqb kind 55) refl
   where
     of-three : (j : ℕ) → j < 3 → place 55 j < 3

@@ -144,7 +144,7 @@ fn put_last(out: &mut [u8], at: usize, kind: u16, k: u16, verified: bool) -> usi
 }
 
 // Whether a VERIFY follows child number j.
-fn child_verified(kind: u16, j: usize, verified: bool) -> bool
+pub fn child_verified(kind: u16, j: usize, verified: bool) -> bool
     ensures { λ r. ⌜ r ≡ childVerified kind j verified ⌝ }
 {
     match kind {
@@ -161,7 +161,7 @@ fn child_verified(kind: u16, j: usize, verified: bool) -> bool
 }
 
 // Which child comes as number j: an AndOr of x, y and z has z before y.
-fn place(kind: u16, j: usize) -> usize
+pub fn place(kind: u16, j: usize) -> usize
     ensures { λ r. ⌜ r ≡ place kind j ⌝ }
 {
     if kind == 55 {

@@ -127,7 +127,7 @@ fn put_little(out: &mut [u8], at: usize, n: u32, width: usize) -> usize
 }
 
 // How many bytes hold a number above 16 and its sign.
-fn width_of(n: u32) -> u8
+pub fn width_of(n: u32) -> u8
     requires { ⌜ 16 < n ⌝ }
     ensures { λ r. ⌜ numberBytes n ≡ r ∷ Little.bytesOf r n ⌝ }
 {

@@ -138,7 +138,7 @@ fn multi_a_type(context: Context) -> TypeResult
 }
 
 // What a word of work memory holds.
-fn slot_of(word: u64) -> Slot
+pub fn slot_of(word: u64) -> Slot
     ensures { λ s. ⌜ s ≡ slotAnswer (slotOf word) ⌝ }
 {
     let packed = word % HEIGHTS;
@@ -155,7 +155,7 @@ fn slot_of(word: u64) -> Slot
 }
 
 // The type of a record of this kind, that has `count` children or keys, from the types of its children.
-fn rule_of(context: Context, kind: u16, k: usize, count: usize, types: [Type; 16]) -> TypeResult
+pub fn rule_of(context: Context, kind: u16, k: usize, count: usize, types: [Type; 16]) -> TypeResult
     requires { ⌜ (32 ≤ kind) × (kind ≤ 58) × (count ≤ 16) ⌝ }
     ensures { λ r. ⌜ ruleOf kind context k (take (arity kind count) types) ≡ answered r ⌝ }
 {
@@ -228,7 +228,7 @@ fn take_children(work: &mut [u64], read: usize, children: [u16; 16], n: usize) -
 }
 
 // The types of some trees.
-fn types_of(subtrees: [Subtree; 16]) -> [Type; 16]
+pub fn types_of(subtrees: [Subtree; 16]) -> [Type; 16]
     ensures { λ r. ⌜ r ≡ typesOf subtrees ⌝ }
 {
     let none = Type::of_false();
@@ -251,7 +251,7 @@ fn greater(a: u64, b: u64) -> u64
 }
 
 // How tall the tallest of the first n trees is, and 0 for none.
-fn tallest(subtrees: [Subtree; 16], n: usize) -> u64
+pub fn tallest(subtrees: [Subtree; 16], n: usize) -> u64
     requires { ⌜ n ≤ 16 ⌝ }
     ensures { λ r. ⌜ r ≡ tallest (take n subtrees) ⌝ }
 {
