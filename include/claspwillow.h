@@ -123,6 +123,15 @@ uint32_t claspwillow_find(uint32_t context, const uint8_t *tree, uint64_t tree_l
 /* The one length of `work`, in words, that claspwillow_find takes. */
 uint64_t claspwillow_find_work(void);
 
+/* Whether a fragment tree from elsewhere stands for a policy: 0 exactly if both are read, the tree is of base B, safe and not malleable, every
+ * fragment in it is locally valid, both have at most 12 variables together, and the two mean the same under every assignment to them.
+ * `work` is lent: claspwillow_accept_work() words, of any content; they are all zero afterwards, whatever the call gives. */
+uint32_t claspwillow_accept(uint32_t context, const uint8_t *policy, uint64_t policy_len, const uint8_t *tree, uint64_t tree_len, uint64_t *work,
+                            uint64_t work_len);
+
+/* The one length of `work`, in words, that claspwillow_accept takes. */
+uint64_t claspwillow_accept_work(void);
+
 #ifdef __cplusplus
 }
 #endif

@@ -1,0 +1,5 @@
+pub mod Words
+pub mod Loading
+pub mod Steps
+pub mod Everywhere
+pub mod Filling

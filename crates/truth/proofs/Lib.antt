@@ -1,0 +1,9 @@
+pub mod BitLaws
+pub mod PlaneLaws
+pub mod Counting
+pub mod GateLaws
+pub mod RecordWords
+pub mod PolicyWords
+pub mod Agreeing
+pub mod Covering
+pub mod Deciding

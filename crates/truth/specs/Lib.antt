@@ -1,0 +1,4 @@
+-- For the contracts, in reading order.
+pub mod Words
+pub mod Gates
+pub mod Alike

@@ -1,0 +1,6 @@
+pub mod Members
+pub mod Rows
+pub mod Walking
+pub mod OwnCodes
+pub mod TreeGathering
+pub mod PolicyGathering
