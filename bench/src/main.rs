@@ -43,6 +43,8 @@ pub mod policy {
     include!(concat!(env!("OUT_DIR"), "/policy.rs"));
 }
 
+#[cfg(port)]
+mod accept;
 mod answers;
 #[cfg(port)]
 mod check;
@@ -101,6 +103,7 @@ const USAGE: &str = "usage:
   bench spends-speed                   times that interpreter and the port over 10,000 recorded spends
   bench spends-log                     writes the example log of the program `spends`, crates/spends/data/example.log
   bench index SEED COUNT MAXRECORDS    runs COUNT random trees of each flavour and context through the bench's own encoder, byte by byte, and the port
+  bench accept SEED COUNT MAXRECORDS   runs COUNT policies with their trees, changed ones and others through an evaluation of its own and the port
   bench witness SEED COUNT             runs COUNT random trees of each flavour and context, small ones and compiled ones through every way and the port
 ";
 
@@ -229,6 +232,17 @@ fn index(_: [&str; 3]) -> Result<bool, String> {
 }
 
 #[cfg(port)]
+fn accept(words: [&str; 3]) -> Result<bool, String> {
+    let (seed, count, records) = numbers(words, 64)?;
+    Ok(accept::run(seed, count, records))
+}
+
+#[cfg(not(port))]
+fn accept(_: [&str; 3]) -> Result<bool, String> {
+    no_port()
+}
+
+#[cfg(port)]
 fn witness(words: [&str; 2]) -> Result<bool, String> {
     Ok(witness::run(number(words[0])?, number(words[1])?))
 }
@@ -291,6 +305,7 @@ fn run(words: &[&str]) -> Result<bool, String> {
         ["spends-log"] => spends_log(),
         ["index", seed, count, records] => index([seed, count, records]),
         ["witness", seed, count] => witness([seed, count]),
+        ["accept", seed, count, records] => accept([seed, count, records]),
         ["figures"] => Ok(figures::run()),
         ["decode", seed, count, records] => {
             let (seed, count, records) = numbers([seed, count, records], 4_096)?;

@@ -98,6 +98,16 @@ extern "C" {
         record: *mut u32,
     ) -> u32;
     fn claspwillow_find_work() -> u64;
+    fn claspwillow_accept(
+        context: u32,
+        policy: *const u8,
+        policy_len: u64,
+        tree: *const u8,
+        tree_len: u64,
+        work: *mut u64,
+        work_len: u64,
+    ) -> u32;
+    fn claspwillow_accept_work() -> u64;
 }
 
 /// The words of work memory that the check asks for.
@@ -265,5 +275,19 @@ pub fn find(context: u32, tree: &[u8], index: &[u8], at: u64, work: &mut [u64], 
             found,
             record,
         )
+    }
+}
+
+/// The words of work memory that accept asks for.
+pub fn accept_work() -> usize {
+    // SAFETY: the function takes nothing.
+    unsafe { claspwillow_accept_work() as usize }
+}
+
+/// The number.
+pub fn accept(context: u32, policy: &[u8], tree: &[u8], work: &mut [u64]) -> u32 {
+    // SAFETY: each slice is passed as its own pointer and length.
+    unsafe {
+        claspwillow_accept(context, policy.as_ptr(), policy.len() as u64, tree.as_ptr(), tree.len() as u64, work.as_mut_ptr(), work.len() as u64)
     }
 }
