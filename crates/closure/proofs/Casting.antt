@@ -2,17 +2,20 @@
 -- first. Assumes nothing.
 use mathlib.Core.Path.{_≡_, refl, sym, _∙_, ap}
 use mathlib.Core.List.{List}
+use mathlib.Core.Bool.{false}
 use Prim.Native.Nat.{ℕ, suc, _+_, _<_, _≤_}
 use native.Mathlib.Numerals.{add-one}
 use native.Mathlib.Omega.{arith}
 use lib.ListN.{drop}
 use Rattle.contexts.specs.declared.Context.{Context}
+use Rattle.candidates.specs.Casts.{allCasts as code-casts}
 use Rattle.definition.specs.Candidates.{Candidate, Cast, allCasts, castNo}
 use Rattle.definition.specs.Tables.{Probs}
 use Rattle.definition.specs.Refusals.{Stored, Res, M, then}
 use Rattle.definition.specs.Insertion.{Queued, offer, castAll}
 use Rattle.definition_laws.proofs.Steps.{then-done, then-refused, castAll-none, castAll-next}
 use Rattle.memory.specs.Layout.{nodeCount}
+use Rattle.nodes.specs.Words.{nodeAt}
 use Rattle.nodes.specs.Views.{seen}
 use Rattle.nodes.specs.Answers.{Holds}
 use Rattle.nodes.proofs.Grown.{seen-kept}
@@ -24,9 +27,11 @@ use Rattle.closure.specs.declared.End.{End}
 use Rattle.closure.specs.declared.End.the-variants.{Done, Refused}
 use Rattle.closure.specs.declared.Closed.{Closed}
 use Rattle.closure.specs.Closed.{answer, OfferedCast, OfferedCasts}
+use Rattle.closure.specs.Typing.{isTyped, castType}
 use Rattle.closure.proofs.Waiting.{queueAt}
 use Rattle.table.proofs.Kept.{extends-refl, extends-trans}
-use Rattle.closure.proofs.Offering.{closed}
+use Rattle.closure.proofs.Extending.{still-below}
+use Rattle.closure.proofs.Offering.{closed, ill-offered}
 
 -- before the cast of a number, in memory m, with the table t
 pub record Casting (c : Context) (p : Probs) (e : ℕ) (t₀ : Table) (m₀ : List ℕ) (number : ℕ) (t : Table) (m : List ℕ) : Type 0 where
@@ -95,3 +100,19 @@ module _ (c : Context) (p : Probs) {e : ℕ} {t₀ : Table} {m₀ : List ℕ} wh
           extends = extends-trans (i .extends) (one .extends);
           table = one .table;
         }
+
+  -- the next cast is ill-typed
+  pub casting-passes : Holds m₀ → e < nodeCount m₀ → {t : Table} {m : List ℕ} {number : ℕ} → Casting c p e t₀ m₀ number t m → number < 10
+      → isTyped (castType (code-casts c) number (nodeAt m e .ty)) ≡ false → Casting c p e t₀ m₀ (number + 1) t m
+  casting-passes holds l {m = m} {number = number} i few ill =
+      casting-goes-on holds l i few (ill-offered c p (i .extends .holds) (still-below (i .extends) l) number ill (i .table)) refl
+
+  -- what the arms of the loop leave
+  module _ (holds : Holds m₀) (l : e < nodeCount m₀) {t : Table} {m : List ℕ} {number : ℕ} (i : Casting c p e t₀ m₀ number t m) (few : number < 10)
+      {t′ : Table} {m′ : List ℕ} where
+    pub casting-offered : {r : Closed} {m₁ : List ℕ} → OfferedCast c p e number t r m m₁ → r .end ≡ Done → m′ ≡ m₁ → t′ ≡ r .table
+        → Casting c p e t₀ m₀ (number + 1) t′ m′
+    casting-offered one done work table = rw (work, table) (casting-goes-on holds l i few one done)
+
+    pub casting-passed : isTyped (castType (code-casts c) number (nodeAt m e .ty)) ≡ false → m′ ≡ m → t′ ≡ t → Casting c p e t₀ m₀ (number + 1) t′ m′
+    casting-passed ill work table = rw (work, table) (casting-passes holds l i few ill)

@@ -1,8 +1,8 @@
 -- The closure, element by element: what is still to be popped, with the pops that are left, gives what the closure gives from its start.
 -- Assumes nothing.
-use mathlib.Core.Path.{_≡_, sym, _∙_, ap}
+use mathlib.Core.Path.{_≡_, refl, sym, _∙_, ap}
 use mathlib.Core.List.{List}
-use mathlib.Core.Logic.{_⊎_, ⊎-elim}
+use mathlib.Core.Logic.{_⊎_, ⊎-elim, inr}
 use mathlib.Core.Option.{some}
 use Prim.Native.Nat.{ℕ, suc, _+_, _-_, _<_, _≤_}
 use native.Mathlib.Omega.{arith}
@@ -181,3 +181,9 @@ module _ (c : Context) (p : Probs) {first : ℕ} {t₁ : Table} {m₁ : List ℕ
           extends = extends-trans (b .extends) (extends-trans (i .extends) (all .extends));
           table = all .table;
         }
+
+-- a candidate that is turned away makes nobody wait
+pub turned-closes : (c : Context) (p : Probs) {x : code.Candidate} {t : Table} {m : List ℕ} → Holds m → TableHolds m t
+    → Inserted c p x t (record { table = t; offer = Offer.TurnedAway }) m m → Closes c p x t (closed t Done) m m
+turned-closes c p {m = m} holds table ins =
+    closing-ends c p (closing-begins c p holds table) (closure-begins c p ins holds (inr refl) refl) (omega arith)

@@ -1,5 +1,6 @@
 -- One cast of a node, offered: what the call of `table::insert` leaves is what the definition's offer gives. Assumes nothing.
-use mathlib.Core.Path.{_≡_, sym, _∙_, ap}
+use mathlib.Core.Path.{_≡_, refl, sym, _∙_, ap}
+use mathlib.Core.Bool.{false}
 use mathlib.Core.List.{List, [], _∷_, _++_}
 use mathlib.Core.Option.{Option, none, some}
 use Prim.Native.Nat.{ℕ, _<_, _≤_}
@@ -8,7 +9,7 @@ use Rattle.figures.specs.Bounds.{Small}
 use Rattle.candidates.specs.declared.Candidate as code
 use Rattle.candidates.specs.declared.CastResult.{CastResult}
 use Rattle.candidates.specs.declared.CastResult.the-variants.{Cast}
-use Rattle.candidates.specs.Casts.{castOf}
+use Rattle.candidates.specs.Casts.{castOf, allCasts}
 use Rattle.definition.specs.Candidates.{Candidate, castNo}
 use Rattle.definition.specs.Tables.{Probs}
 use Rattle.definition.specs.Refusals.{State, Stored, done, refused, pure}
@@ -30,6 +31,8 @@ use Rattle.closure.specs.declared.End.{End}
 use Rattle.closure.specs.declared.End.the-variants.{Done, Refused}
 use Rattle.closure.specs.declared.Closed.{Closed}
 use Rattle.closure.specs.Closed.{waiting, OfferedCast}
+use Rattle.closure.specs.Typing.{isTyped, castType}
+use Rattle.closure.proofs.Typing.{no-cast}
 use Rattle.closure.proofs.Waiting.{queueAt, waiting-same, waiting-more}
 use Rattle.table.proofs.Kept.{extends-refl}
 
@@ -92,6 +95,11 @@ module _ (c : Context) (p : Probs) {m₀ : List ℕ} (holds : Holds m₀) {e : �
         extends = extends-refl holds;
         table = table;
       }
+
+  -- what is ill-typed
+  pub ill-offered : isTyped (castType (allCasts c) number (nodeAt m₀ e .ty)) ≡ false → {t : Table} → TableHolds m₀ t →
+      OfferedCast c p e number t (closed t Done) m₀ m₀
+  ill-offered ill table = nothing-offered refl (λ pol. no-cast pol m₀ (allCasts c) number (nodeAt m₀ e) e ill) table
 
   module _ {y : code.Candidate} (is : castOf c number (nodeAt m₀ e) e ≡ Cast y) {t : Table} {step : Step} {m : List ℕ}
       (ins : Inserted c p y t step m₀ m) where

@@ -1,2 +1,3 @@
 -- What a reader of this crate must believe.
 pub mod Closed
+pub mod Typing

@@ -1,13 +1,18 @@
 // The closure of casts: a candidate is offered to a table, and each candidate that is accepted is cast all ten ways, first in, first out
 // (insert_elem_closure in policy/compiler.rs).
 //
-// Its contracts cite `specs/Closed.antt`.
+// Its contracts cite `specs/Closed.antt` and `specs/Typing.antt`.
+ghost use mathlib.Core.Path.{_≡_};
 ghost use Prim.Native.Nat.{_<_};
+ghost use lib.ListN.{length};
+ghost use Rattle.candidates.specs.Casts.{allCasts};
 ghost use Rattle.definition.specs.Tables.{probs};
-ghost use Rattle.memory.specs.Layout.{nodeCount};
+ghost use Rattle.memory.specs.Layout.{workWords, nodeCount};
+ghost use Rattle.nodes.specs.Words.{nodeAt};
 ghost use Rattle.nodes.specs.Answers.{Holds};
 ghost use Rattle.nodes.specs.Offers.{Offerable};
 ghost use Rattle.table.specs.Rows.{TableHolds};
+ghost use Rattle.closure.specs.Typing.{isTyped, castType};
 ghost use Rattle.closure.specs.Closed.{OfferedCast, OfferedCasts, Closes};
 use candidates::Candidate;
 use candidates::CastResult;
@@ -15,6 +20,8 @@ use contexts::Context;
 use costs::DissatProb;
 use table::Offer;
 use table::Table;
+use types::Type;
+use types::TypeResult;
 
 // The casts, and the most elements that one closure pops.
 const CASTS: u8 = 10;
@@ -80,7 +87,37 @@ fn offer_cast(
     }
 }
 
-// The ten casts of node e are offered, in their order.
+// The type of the cast of a number.
+fn cast_type(context: Context, ty: Type, number: u8) -> TypeResult
+    ensures { λ r. ⌜ r ≡ castType (allCasts context) number ty ⌝ }
+{
+    match number {
+        0 => ty.cast_check(),
+        1 => ty.cast_dupif(context),
+        2 => ty.cast_likely(),
+        3 => ty.cast_unlikely(),
+        4 => ty.cast_verify(),
+        5 => ty.cast_nonzero(),
+        6 => ty.cast_true(),
+        7 => ty.cast_swap(),
+        8 => ty.cast_alt(),
+        9 => ty.cast_zeronotequal(),
+        10..=255 => TypeResult::IllTyped,
+    }
+}
+
+// Whether the cast of a number of node e is well-typed, which the node's type tells.
+fn castable(context: Context, work: &[u64], e: u16, number: u8) -> bool
+    requires { ⌜ length (now work) ≡ workWords ⌝ }
+    ensures { λ r. ⌜ r ≡ isTyped (castType (allCasts context) number (nodeAt (now (work .entry)) e .ty)) ⌝ }
+{
+    match cast_type(context, nodes::type_at(work, e), number) {
+        TypeResult::Ok(_) => true,
+        TypeResult::IllTyped => false,
+    }
+}
+
+// The ten casts of node e are offered, in their order; what is ill-typed is passed over before anything is made.
 fn cast_all(
     context: Context,
     work: &mut [u64],
@@ -95,17 +132,19 @@ fn cast_all(
     let mut table = t;
     let mut number: u8 = 0;
     while number < CASTS {
-        let c = offer_cast(context, work, sat, dissat, e, number, table);
-        table = c.table;
-        let end = c.end;
-        match end {
-            End::Refused(n) => {
-                return Closed {
-                    table,
-                    end: End::Refused(n),
-                };
+        if castable(context, work, e, number) {
+            let c = offer_cast(context, work, sat, dissat, e, number, table);
+            table = c.table;
+            let end = c.end;
+            match end {
+                End::Refused(n) => {
+                    return Closed {
+                        table,
+                        end: End::Refused(n),
+                    };
+                }
+                End::Done => {}
             }
-            End::Done => {}
         }
         number += 1;
     }

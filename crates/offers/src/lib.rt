@@ -1,15 +1,18 @@
 // What a search offers to its table besides pairs: leaves, and the casts of the entries of a remembered table (insert_best_wrapped in
-// policy/compiler.rs).
+// policy/compiler.rs); and which pairs need not be offered.
 //
 // Its contracts cite `specs/Offering.antt`.
-ghost use Prim.Native.Nat.{_<_};
+ghost use mathlib.Core.Path.{_≡_};
+ghost use Prim.Native.Nat.{_<_, _≤_};
+ghost use lib.ListN.{length, take};
 ghost use Rattle.definition.specs.Tables.{probs};
-ghost use Rattle.memory.specs.Layout.{nodeCount};
+ghost use Rattle.memory.specs.Layout.{workWords, nodeCount};
 ghost use Rattle.nodes.specs.Answers.{Holds};
 ghost use Rattle.table.specs.Rows.{TableHolds};
-ghost use Rattle.offers.specs.Offering.{Empty, LeafOf, InsertedCast, SlotReady, InsertedCasts};
+ghost use Rattle.offers.specs.Offering.{Empty, LeafOf, alone, leavesAll, SmallIfMade, InsertedCast, SlotReady, InsertedCasts};
 use candidates::Candidate;
 use candidates::CastResult;
+use candidates::Made;
 use closure::Closed;
 use closure::End;
 use contexts::Context;
@@ -43,6 +46,41 @@ pub fn leaf_of(kind: u64, number: u64, r: u16) -> Candidate
         8..=8 => Candidate::ripemd160(r),
         9..=9 => Candidate::hash160(r),
         _ => Candidate::of_false(),
+    }
+}
+
+// Whether a candidate is offered with nothing more: there is no dissatisfaction, or the table is settled.
+fn alone(dissat: DissatProb, settled: bool) -> bool
+    ensures { λ b. ⌜ b ≡ alone dissat settled ⌝ }
+{
+    match dissat {
+        DissatProb::Some(_) => settled,
+        DissatProb::None => true,
+    }
+}
+
+// Whether what was made leaves a table with these first n entries as it is: it was passed over, or it is turned away by its type and its cost.
+pub fn leaves_all(
+    work: &[u64],
+    sat: f64,
+    dissat: DissatProb,
+    x: Made,
+    settled: bool,
+    entries: &[u16],
+    n: usize,
+) -> bool
+    requires { ⌜ (length (now work) ≡ workWords) × ((n ≤ length (now entries)) × SmallIfMade x) ⌝ }
+    ensures { λ b. ⌜ b ≡ leavesAll (now (work .entry)) (probs sat dissat) settled x (take n (now (entries .entry))) ⌝ }
+{
+    match x {
+        Made::Candidate(y) => {
+            if alone(dissat, settled) {
+                return table::turns_away(work, entries, n, sat, dissat, y);
+            }
+            false
+        }
+        Made::PassedOver => true,
+        Made::Missing => false,
     }
 }
 

@@ -4,6 +4,7 @@ pub mod Ranks
 pub mod Steps
 pub mod Wrapping
 pub mod Pairing
+pub mod Passing
 pub mod Staging
 pub mod Asking
 pub mod Bodies

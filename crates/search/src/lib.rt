@@ -433,7 +433,7 @@ fn pair_all(
 }
 
 // All candidates of one pairing, each wrapped. The casts of what the search without dissatisfaction found are offered until the table is
-// settled: from then on they would change nothing.
+// settled: from then on they would change nothing. What leaves the table as it is need not be wrapped.
 fn pair(
     context: Context,
     pol: &[u64],
@@ -455,9 +455,19 @@ fn pair(
     let mut i = 0;
     while i < many {
         let x = pairing::made(work, a, slots, i);
-        done = wrapped_if_made(context, pol, work, r, sat, dissat, x, done, settled);
-        if !settled {
-            settled = search_state::settles(pol, work, r, sat, dissat, x);
+        if !offers::leaves_all(
+            work,
+            sat,
+            dissat,
+            x,
+            settled,
+            &done.table.entries,
+            done.table.len,
+        ) {
+            done = wrapped_if_made(context, pol, work, r, sat, dissat, x, done, settled);
+            if !settled {
+                settled = search_state::settles(pol, work, r, sat, dissat, x);
+            }
         }
         i += 1;
     }

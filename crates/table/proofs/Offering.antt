@@ -1,10 +1,10 @@
 -- An offer to a table, case by case: what the tests of the code say gives what the definition of insertion answers. Assumes nothing.
 use mathlib.Core.Path.{_≡_, refl, sym, _∙_, ap, subst}
 use mathlib.Core.List.{List}
-use mathlib.Core.Bool.{Bool, true, false, _&&_}
+use mathlib.Core.Bool.{Bool, true, false, cond, _&&_, true≢false}
 use Prim.Native.Nat.{ℕ, suc, _-_, _<_, _≤_}
 use native.Mathlib.Omega.{arith}
-use borrow.Author.Tests.{le-leb, lt-leb}
+use borrow.Author.Tests.{le-leb, lt-leb, leb-true, leb-false}
 use lib.Dec.{leb}
 use lib.ListN.{length, length-map}
 use Rattle.contexts.specs.declared.Context.{Context}
@@ -30,7 +30,7 @@ use Rattle.nodes.proofs.Valid.{worthwhile-is, cost-is}
 use Rattle.table.specs.declared.Table.{Table}
 use Rattle.table.specs.declared.Priced.{Priced}
 use Rattle.table.specs.declared.Offer.the-variants.{Entered, TurnedAway, Refused}
-use Rattle.table.specs.Rows.{rows, Rows, TableHolds, pricedAs, keyOf, anyOf, those, beatsIt, stands, enterAt}
+use Rattle.table.specs.Rows.{rows, Rows, TableHolds, pricedAs, keyOf, anyOf, those, beatsIt, stands, enterAt, turnsAway}
 use Rattle.table.specs.Inserted.{stateOf, seenTable, Inserted}
 use Rattle.table.proofs.Loops.{rows-length}
 use Rattle.table.proofs.Bridges.{below-those, below-enter, pricedOf, priced-offered, any-seen, filter-seen, enter-seen}
@@ -223,3 +223,28 @@ module _ {c : Context} {p : Probs} {x : code.Candidate} {t : Table} {m : List �
                     };
                 next = (a .more .count, a .more .sees);
               }
+
+-- ---- what is turned away by its type and its cost alone is turned away, whether or not it is locally valid and low
+
+module _ {c : Context} {p : Probs} {x : code.Candidate} {t : Table} {m : List ℕ} (h : Holds m) (th : TableHolds m t) where
+  beaten-turned : (valid tall : Bool) → checkLocalValidity c (x .kind) (x .ext) ≡ valid → leb maxHeight (x .ext .«tree_height») ≡ tall
+      → x .ty .mall .«non_malleable» ≡ true → isPrice (pricedAs p x .cost) ≡ true → anyOf (beatsIt m p (pricedAs p x)) (rows t) ≡ true
+      → Inserted c p x t (record { table = t; offer = TurnedAway }) m m
+  beaten-turned false tall v l n i b = invalid h th n v
+  beaten-turned true true v l n i b = too-tall h th (leb-true maxHeight (x .ext .«tree_height») l)
+  beaten-turned true false v l n i b =
+      loses h th (record { sound = n; valid = v; low = leb-false maxHeight (x .ext .«tree_height») l }) (record { priced = refl; cost = i }) (sym b)
+
+  by-cost : (cost : Bool) → isPrice (pricedAs p x .cost) ≡ cost → x .ty .mall .«non_malleable» ≡ true
+      → cond cost (anyOf (beatsIt m p (pricedAs p x)) (rows t)) false ≡ true → Inserted c p x t (record { table = t; offer = TurnedAway }) m m
+  by-cost true i n b = beaten-turned (checkLocalValidity c (x .kind) (x .ext)) (leb maxHeight (x .ext .«tree_height»)) refl refl n i b
+  by-cost false i n b = absurd (true≢false (sym b))
+
+  by-type : (sound : Bool) → x .ty .mall .«non_malleable» ≡ sound
+      → cond sound (cond (isPrice (pricedAs p x .cost)) (anyOf (beatsIt m p (pricedAs p x)) (rows t)) false) true ≡ true
+      → Inserted c p x t (record { table = t; offer = TurnedAway }) m m
+  by-type true n b = by-cost (isPrice (pricedAs p x .cost)) refl n b
+  by-type false n b = malleable h th n
+
+  pub turned-away : turnsAway m p (pricedAs p x) (rows t) ≡ true → Inserted c p x t (record { table = t; offer = TurnedAway }) m m
+  turned-away b = by-type (x .ty .mall .«non_malleable») refl b

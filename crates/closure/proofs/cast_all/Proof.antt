@@ -1,11 +1,13 @@
 -- `closure::cast_all` meets its contract: before the cast of a number, the casts still to come give what all ten give. Assumes nothing.
+use mathlib.Core.Path.{sym, _∙_}
+use mathlib.Core.Logic.{⊎-elim}
 use Prim.Native.Nat.{_-_, _≤_}
 use native.Mathlib.Omega.{arith}
 use borrow.Author.Needs.{needs}
 use Rattle.definition.specs.Tables.{probs}
 use Rattle.table.proofs.Kept.{extends-trans}
 use Rattle.closure.proofs.Extending.{still-long, still-below}
-use Rattle.closure.proofs.Casting.{Casting, casting-begins, casting-ends, casting-refused, casting-goes-on}
+use Rattle.closure.proofs.Casting.{Casting, casting-begins, casting-ends, casting-refused, casting-offered, casting-passed}
 use Rattle.closure.proofs.cast_all.Statement.{statement}
 use Rattle.closure.proofs.cast_all.Tie as tie
 
@@ -22,11 +24,14 @@ loop-holds c =
     let pre = c .before .pre in
     (casting-begins (args .context) (probs (args .sat) (args .dissat)) (pre .0) (pre .1 .0), omega arith)
 
+castable-requires : tie.Need-castable-requires Inv-loop μ-loop
+castable-requires c κs = c .before .before .loop .inv .0 .extends .holds .long
+
 offer-cast-requires : tie.Need-offer-cast-requires Inv-loop μ-loop
 offer-cast-requires c κs =
-    let loop-test = c .before .loop-test in
-    let loop = c .before .before .loop in
-    let pre = c .before .before .before .before .pre in (
+    let loop-test = c .before .before .before .before .loop-test in
+    let loop = c .before .before .before .before .before .loop in
+    let pre = c .before .before .before .before .before .before .before .pre in (
       loop .inv .0 .extends .holds,
       (loop .inv .0 .table, (still-below (loop .inv .0 .extends) (pre .1 .1), omega (arith, loop-test .taken))),
     )
@@ -37,18 +42,18 @@ enum-known-end c = search needs
 same-length : tie.Need-same-length Inv-loop μ-loop
 same-length c =
     let offer-cast = c .before .before .before .before .before .before .offer-cast in
-    let loop = c .before .before .before .before .before .before .before .before .before .loop in
-    let pre = c .before .before .before .before .before .before .before .before .before .before .before .pre in
+    let loop = c .before .before .before .before .before .before .before .before .before .before .before .before .loop in
+    let pre = c .before .before .before .before .before .before .before .before .before .before .before .before .before .before .pre in
     still-long (pre .0) (extends-trans (loop .inv .0 .extends) (offer-cast .ensures .extends))
 
 returns : tie.Need-returns Inv-loop μ-loop
 returns c =
     let end = c .before .end in
     let offer-cast = c .before .before .before .before .before .before .offer-cast in
-    let loop-test = c .before .before .before .before .before .before .before .before .loop-test in
-    let loop = c .before .before .before .before .before .before .before .before .before .loop in
-    let args = c .before .before .before .before .before .before .before .before .before .before .before .args in
-    let pre = c .before .before .before .before .before .before .before .before .before .before .before .pre in
+    let loop-test = c .before .before .before .before .before .before .before .before .before .before .before .loop-test in
+    let loop = c .before .before .before .before .before .before .before .before .before .before .before .before .loop in
+    let args = c .before .before .before .before .before .before .before .before .before .before .before .before .before .before .args in
+    let pre = c .before .before .before .before .before .before .before .before .before .before .before .before .before .before .pre in
     casting-refused (args .context) (probs (args .sat) (args .dissat))
     (pre .0) (pre .1 .1) (loop .inv .0) (omega (arith, loop-test .taken)) (offer-cast .ensures) (end .given .1)
 
@@ -56,21 +61,27 @@ enum-told : tie.Need-enum-told Inv-loop μ-loop
 enum-told c = search needs
 
 add-number : tie.Need-add-number Inv-loop μ-loop
-add-number c = omega arith
+add-number c = omega (arith, c .before .before .before .loop-test .taken)
 
 loop-less : tie.Need-loop-less Inv-loop μ-loop
-loop-less c = omega arith
+loop-less c = omega (arith, c .before .before .before .loop-test .taken)
 
 loop-again : tie.Need-loop-again Inv-loop μ-loop
 loop-again c =
-    let offer-cast = c .before .before .before .before .before .offer-cast in
-    let loop-test = c .before .before .before .before .before .before .before .loop-test in
-    let loop = c .before .before .before .before .before .before .before .before .loop in
-    let args = c .before .before .before .before .before .before .before .before .before .before .args in
-    let pre = c .before .before .before .before .before .before .before .before .before .before .pre in (
-      casting-goes-on (args .context) (probs (args .sat) (args .dissat))
-          (pre .0) (pre .1 .1) (loop .inv .0) (omega (arith, loop-test .taken)) (offer-cast .ensures) (c .enum-told .given .1),
-      omega arith,
+    let castable = c .before .castable in
+    let loop-test = c .before .before .before .loop-test in
+    let loop = c .before .before .before .before .loop in
+    let args = c .before .before .before .before .before .before .args in
+    let pre = c .before .before .before .before .before .before .pre in (
+      ⊎-elim
+          (λ w.
+          casting-offered (args .context) (probs (args .sat) (args .dissat)) (pre .0) (pre .1 .1) (loop .inv .0) (omega (arith, loop-test .taken))
+          (w .2 .ensures) (w .7 .given .1) (w .8) (w .9))
+          (λ w.
+          casting-passed (args .context) (probs (args .sat) (args .dissat)) (pre .0) (pre .1 .1) (loop .inv .0) (omega (arith, loop-test .taken))
+          (sym (castable .ensures) ∙ w .0 .left) (w .1) (w .2))
+          (c .if1 .came),
+      omega (arith, loop-test .taken),
     )
 
 same-length-2 : tie.Need-same-length-2 Inv-loop μ-loop
@@ -92,6 +103,7 @@ cast-all-spec =
     Inv-loop
     μ-loop
     loop-holds
+    castable-requires
     offer-cast-requires
     enum-known-end
     same-length

@@ -5,6 +5,7 @@ use borrow.Author.Needs.{needs}
 use mathlib.Core.Path.{refl, sym, _≡_, _∙_}
 use mathlib.Core.Logic.{⊎-elim}
 use native.Mathlib.Omega.{arith}
+use borrow.Author.Tests.{not-false}
 use lib.ListN.{length-set, length, take}
 use Prim.Native.Nat.{ℕ, _<_, _-_, _≤_}
 use borrow.Fn.Kinds.{In}
@@ -21,6 +22,7 @@ use Rattle.search.proofs.Asking.{going-more, going-again}
 use Rattle.search.proofs.Wrapping.{ready-long, stops, doing-next, doing-going, made-wrapped, passed-over}
 use Rattle.search.proofs.Wrapping.{missing-refused, CastsOn, wrapped-doing, wrapped-plain, wrapped-casts, wrapped-settled}
 use Rattle.search.proofs.Wrapping.{unsettled, settled-on, settled-from}
+use Rattle.search.proofs.Passing.{small-if-made, leaves-passes, pair-moves}
 use Rattle.search.proofs.Wrapping.{flag-some, cast-refused, cast-ready, cast-done, casts-begin, casts-going}
 use Rattle.search.proofs.Wrapping.{casts-end, casts-refused, casts-go-on}
 use Rattle.search.proofs.Threshes.{searched-slot, BestsSoFar, bests-begin, best-found, best-missing, best-refused}
@@ -117,6 +119,7 @@ use Rattle.costs.proofs.weights.Reads as weights-reads
 use Rattle.offers.proofs.cast_entries.Reads as cast-entries-reads
 use Rattle.offers.proofs.empty.Reads as empty-reads
 use Rattle.offers.proofs.leaf_of.Reads as leaf-of-reads
+use Rattle.offers.proofs.leaves_all.Reads as leaves-all-reads
 use Rattle.pairing.proofs.count.Reads as count-reads
 use Rattle.pairing.proofs.made.Reads as made-reads
 use Rattle.policies.proofs.child.Reads as child-reads
@@ -1560,6 +1563,8 @@ pair-calls t = (
   count-reads.Learnt,
   made-reads.Asked,
   made-reads.Learnt,
+  leaves-all-reads.Asked,
+  leaves-all-reads.Learnt,
   wrapped-if-made-below t,
   wrapped-if-made.Post,
   settles-reads.Asked,
@@ -1589,20 +1594,39 @@ pair-made-requires t c κs =
     let again = againIn (args .context) q p in
     pair-makes (args .context) p again (pre .1 .1) (count .ensures) (loop .i) (loop .inv .0) (c .before .loop-test .taken)
 
+pair-leaves-all-requires : (t : ℕ) → pair-lts.Need-leaves-all-requires (pair-calls t) (pair-at t) pair.Post pair-Inv-loop pair-μ-loop
+pair-leaves-all-requires t c κs =
+    let count = c .before .before .before .before .before .before .before .before .count in
+    let made = c .before .before .before .before .made in
+    let loop = c .before .before .before .before .before .before .before .loop in
+    let args = c .before .before .before .before .before .before .before .before .before .before .before .before .args in
+    let pre = c .before .before .before .before .before .before .before .before .before .before .before .before .pre in
+    let p = probs (args .sat) (args .dissat) in
+    let q = policyAt (args .pol .now) (args .r) in
+    let again = againIn (args .context) q p in
+    let long : length (loop .done .table .entries) ≡ 128 = search needs in (
+      loop .inv .0 .doing .ready .nodes .long,
+      (
+        omega (arith, long, loop .inv .0 .doing .table .few),
+        small-if-made (pair-offers (args .context) p again (pre .1 .1) (count .ensures) (loop .i) (loop .inv .0) (made .ensures)),
+      ),
+    )
+
 pair-wrapped-if-made-requires : (t : ℕ) →
     pair-lts.Need-wrapped-if-made-requires (pair-calls t) (pair-at t) pair.Post pair-Inv-loop pair-μ-loop
 pair-wrapped-if-made-requires t c κs =
-    let count = c .before .before .before .before .before .count in
-    let loop = c .before .before .before .before .loop in
-    let args = c .before .before .before .before .before .before .before .before .before .args in
-    let pre = c .before .before .before .before .before .before .before .before .before .pre in
+    let count = c .before .before .before .before .before .before .before .before .before .before .before .count in
+    let made = c .before .before .before .before .before .before .before .made in
+    let loop = c .before .before .before .before .before .before .before .before .before .before .loop in
+    let args = c .before .before .before .before .before .before .before .before .before .before .before .before .before .before .before .args in
+    let pre = c .before .before .before .before .before .before .before .before .before .before .before .before .before .before .before .pre in
     let p = probs (args .sat) (args .dissat) in
     let q = policyAt (args .pol .now) (args .r) in
     let again = againIn (args .context) q p in (
       below (omega arith) (pre .0),
       (
         loop .inv .0 .doing,
-        pair-offers (args .context) p again (pre .1 .1) (count .ensures) (loop .i) (loop .inv .0) (c .before .made .ensures),
+        pair-offers (args .context) p again (pre .1 .1) (count .ensures) (loop .i) (loop .inv .0) (made .ensures),
         loop .inv .2,
       ),
     )
@@ -1610,35 +1634,47 @@ pair-wrapped-if-made-requires t c κs =
 pair-settles-requires : (t : ℕ) →
     pair-lts.Need-settles-requires (pair-calls t) (pair-at t) pair.Post pair-Inv-loop pair-μ-loop
 pair-settles-requires t c κs =
-    let doing = c .before .before .before .before .before .before .before .before .before .loop .inv .0 .doing in
-    (doing .classed, (doing .named, c .before .before .before .before .wrapped-if-made .ensures .ready))
+    let wrapped-if-made = c .before .before .before .before .wrapped-if-made in
+    let doing = c .before .before .before .before .before .before .before .before .before .before .before .before .before .before .before .loop .inv .0 .doing in
+    (doing .classed, (doing .named, wrapped-if-made .ensures .ready))
 
 pair-add-i : (t : ℕ) → pair-lts.Need-add-i (pair-calls t) (pair-at t) pair.Post pair-Inv-loop pair-μ-loop
 pair-add-i t c = search needs
 
 pair-loop-less : (t : ℕ) → pair-lts.Need-loop-less (pair-calls t) (pair-at t) pair.Post pair-Inv-loop pair-μ-loop
-pair-loop-less t c = omega (arith, c .before .before .before .before .before .before .before .loop-test .taken)
+pair-loop-less t c = omega (arith, c .before .before .before .before .before .before .before .before .loop-test .taken)
 
 pair-loop-again : (t : ℕ) → pair-lts.Need-loop-again (pair-calls t) (pair-at t) pair.Post pair-Inv-loop pair-μ-loop
 pair-loop-again t c =
-    let count = c .before .before .before .before .before .before .before .before .before .count in
-    let wrapped-if-made = c .before .before .before .wrapped-if-made in
-    let made = c .before .before .before .before .before .made in
-    let loop-test = c .before .before .before .before .before .before .before .loop-test in
-    let loop = c .before .before .before .before .before .before .before .before .loop in
-    let args = c .before .before .before .before .before .before .before .before .before .before .before .before .before .args in
-    let pre = c .before .before .before .before .before .before .before .before .before .before .before .before .before .pre in
+    let count = c .before .before .before .before .before .before .before .before .before .before .count in
+    let made = c .before .before .before .before .before .before .made in
+    let leaves-all = c .before .leaves-all in
+    let loop-test = c .before .before .before .before .before .before .before .before .loop-test in
+    let loop = c .before .before .before .before .before .before .before .before .before .loop in
+    let args = c .before .before .before .before .before .before .before .before .before .before .before .before .before .before .args in
+    let pre = c .before .before .before .before .before .before .before .before .before .before .before .before .before .before .pre in
+    let C = args .context in
     let p = probs (args .sat) (args .dissat) in
     let q = policyAt (args .pol .now) (args .r) in
-    let again = againIn (args .context) q p in (
-      pair-goes-on (args .context) p again (pre .1 .1) (count .ensures) (loop .i) (loop .inv .0) (loop-test .taken)
-          (made .ensures) (wrapped-if-made .ensures),
-      omega (arith, loop-test .taken),
-      ⊎-elim
-          (λ w. settled-from (args .context) (args .sat) (loop .inv .0 .doing) (made .result) (wrapped-if-made .ensures) (w .3 ∙ w .2 .ensures))
-          (λ w. settled-on (args .context) (args .sat) (loop .inv .0 .doing) (made .result) (wrapped-if-made .ensures) (w .1) (loop .inv .2))
-          (c .if1 .came),
-    )
+    let again = againIn C q p in
+    let doing = loop .inv .0 .doing in
+    let on = ⊎-elim
+    (λ w.
+    pair-moves C (args .sat) (w .8) (w .9) (w .10)
+    (pair-goes-on C p again (pre .1 .1) (count .ensures) (loop .i) (loop .inv .0) (loop-test .taken) (made .ensures) (w .2 .ensures))
+    (settled-from C (args .sat) doing (made .result) (w .2 .ensures) (w .7 .ensures)))
+    (⊎-elim
+    (λ w.
+    pair-moves C (args .sat) (w .6) (w .7) (w .8)
+    (pair-goes-on C p again (pre .1 .1) (count .ensures) (loop .i) (loop .inv .0) (loop-test .taken) (made .ensures) (w .2 .ensures))
+    (settled-on C (args .sat) doing (made .result) (w .2 .ensures) refl (loop .inv .2)))
+    (λ w.
+    pair-moves C (args .sat) (w .1) (w .2) (w .3)
+    (pair-goes-on C p again (pre .1 .1) (count .ensures) (loop .i) (loop .inv .0) (loop-test .taken) (made .ensures)
+    (leaves-passes C (args .sat) doing (loop .inv .2) (made .result) (sym (leaves-all .ensures) ∙ not-false _ (w .0 .left))))
+    (loop .inv .2)))
+    (c .if1 .came) in
+    (on .0, omega (arith, loop-test .taken), on .1)
 
 pair-same-length : (t : ℕ) → pair-lts.Need-same-length (pair-calls t) (pair-at t) pair.Post pair-Inv-loop pair-μ-loop
 pair-same-length t c = ready-long (c .before .before .before .before .before .before .pre .1 .0 .ready) (c .before .loop .inv .0 .doing .ready)
@@ -2652,6 +2688,7 @@ pub +all-bests+and-body+and-ors+best-of+body+cast-once+casts-of+folded+leaves+mu
     (pair-count-requires t)
     (pair-loop-holds t)
     (pair-made-requires t)
+    (pair-leaves-all-requires t)
     (pair-wrapped-if-made-requires t)
     (pair-settles-requires t)
     (pair-add-i t)
