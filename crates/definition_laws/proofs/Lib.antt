@@ -13,7 +13,6 @@ pub mod Compiling
 pub mod Passing
 pub mod Steps
 pub mod NothingBetter
-pub mod AsBefore
 pub mod Before
 pub mod Bodies
 pub mod Settling
