@@ -29,6 +29,7 @@ enum {
     CLASPWILLOW_ILL_TYPED = 15,
     CLASPWILLOW_TREE_TOO_LARGE = 16,
     CLASPWILLOW_NO_ENTRY = 17,
+    CLASPWILLOW_KEY_TOO_LARGE = 18,
     CLASPWILLOW_TREE_TOO_TALL = 19,
     CLASPWILLOW_OTHER_INDEX = 20,
     CLASPWILLOW_TOO_MANY_VARIABLES = 21,
@@ -55,7 +56,9 @@ enum {
     CLASPWILLOW_REPLAY_STACK = 262144,
     CLASPWILLOW_INDEX_STACK = 8192,
     CLASPWILLOW_FIND_STACK = 8192,
-    CLASPWILLOW_ACCEPT_STACK = 65536
+    CLASPWILLOW_ACCEPT_STACK = 65536,
+    CLASPWILLOW_TO_NEW_STACK = 32768,
+    CLASPWILLOW_TO_OLD_STACK = 32768
 };
 
 /* Compiles a policy. Writes the records of its tree to the front of `out`, and gives how many bytes they are in *bytes, the bits of the tree's
@@ -144,6 +147,14 @@ uint32_t claspwillow_accept(uint32_t context, const uint8_t *policy, uint64_t po
 
 /* The one length of `work`, in words, that claspwillow_accept takes. */
 uint64_t claspwillow_accept_work(void);
+
+/* Moves a policy to the form in which keys have 64 bits: every record of kind 3 becomes one of kind 19, all else stays, and so does the order. Writes
+ * the moved policy to the front of `out`, and gives how many bytes it is in *bytes. On a refusal *bytes is 0 and `out` is as it was. */
+uint32_t claspwillow_to_new(const uint8_t *policy, uint64_t policy_len, uint8_t *out, uint64_t out_len, uint64_t *bytes);
+
+/* Moves a policy to the form in which keys have 32 bits, every record of kind 19 becoming one of kind 3; 18 is given if a key is over 4,294,967,295.
+ * Else as claspwillow_to_new. */
+uint32_t claspwillow_to_old(const uint8_t *policy, uint64_t policy_len, uint8_t *out, uint64_t out_len, uint64_t *bytes);
 
 #ifdef __cplusplus
 }

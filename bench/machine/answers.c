@@ -204,7 +204,7 @@ static void long_lengths(void) {
         wanted[i] = (const uint8_t[]){4, 0, 33, 0}[i % 4];
     }
     expect(claspwillow_check(context, wanted, far + 4, work, claspwillow_check_work(), &ty), CLASPWILLOW_TREE_TOO_LARGE, "a tree of 2^32 + 4 bytes");
-    expect(claspwillow_script(context, out, 14, keys, far, hashes20, 0, hashes32, 0, hashes20, 0, script, far, work, claspwillow_script_work(), &bytes),
+    expect(claspwillow_script(context, out, 18, keys, far, hashes20, 0, hashes32, 0, hashes20, 0, script, far, work, claspwillow_script_work(), &bytes),
            CLASPWILLOW_DONE, "2^32 bytes of keys, and of room for a script");
 }
 

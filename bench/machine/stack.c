@@ -146,6 +146,16 @@ static void compile(void) {
     result = claspwillow_compile(context, input, length, out, ROOM, work, claspwillow_compile_work(), &bytes, &cost, &never, &nodes);
 }
 
+static void to_new(void) {
+    _Alignas(8) uint64_t bytes;
+    result = claspwillow_to_new(input, length, out, ROOM, &bytes);
+}
+
+static void to_old(void) {
+    _Alignas(8) uint64_t bytes;
+    result = claspwillow_to_old(input, length, out, ROOM, &bytes);
+}
+
 static void check(void) {
     uint32_t ty;
     result = claspwillow_check(context, input, length, work, claspwillow_check_work(), &ty);
@@ -256,6 +266,16 @@ static void report(const char *entry, uint32_t figure) {
     most = 0;
 }
 
+/* The entries that move a policy, each with the header's figure. */
+static const struct {
+    const char *name;
+    void (*call)(void);
+    uint32_t figure;
+} movers[] = {
+    {"to_new", to_new, CLASPWILLOW_TO_NEW_STACK},
+    {"to_old", to_old, CLASPWILLOW_TO_OLD_STACK},
+};
+
 /* The entries that take a tree, each with the number that it gives for those that are 128 high, and the header's figure. */
 static const struct {
     const char *name;
@@ -280,6 +300,15 @@ int machine_run(void) {
         measure(compile, CLASPWILLOW_DONE);
     }
     report("compile", CLASPWILLOW_COMPILE_STACK);
+    for (uint32_t i = 0; i < sizeof movers / sizeof *movers; i++) {
+        ors();
+        measure(movers[i].call, CLASPWILLOW_DONE);
+        for (int first = 0; first < 2; first++) {
+            thresholds(first);
+            measure(movers[i].call, CLASPWILLOW_DONE);
+        }
+        report(movers[i].name, movers[i].figure);
+    }
     for (uint32_t i = 0; i < sizeof tall / sizeof *tall; i++) {
         void (*const call)(void) = tall[i].call;
         const uint32_t expected = tall[i].expected;

@@ -6,10 +6,10 @@ use crate::keys::Key;
 use crate::miniscript::context::{Segwitv0, Tap};
 use crate::miniscript::types::Base;
 use crate::miniscript::ScriptContext;
-use crate::policies::{damaged, Maker};
+use crate::policies::{damaged_any, Maker, KEY, LONG_KEY};
 use crate::policy::Concrete;
 use crate::random::Random;
-use crate::records::{read_policy, to_hex, u16_at, u16s, u32_at, Writer};
+use crate::records::{meant, mixed, number_at, read_policy, to_hex, u16_at, u16s, width, Writer};
 use crate::trees::{self, CHECK_WORK};
 use crate::{iter, oracle, port, tapscript, Miniscript, Terminal};
 
@@ -33,7 +33,7 @@ const FENCE: usize = 16;
 const FENCE_WORD: u64 = 0xFEED_FACE_CAFE_BEEF;
 
 /// A key, a lock or a hash by its kind, and its number.
-type Variable = (u8, u32);
+type Variable = (u8, u64);
 
 /// What a policy or a tree means: the places of its variables, and whether it holds where they are given.
 enum Meaning {
@@ -79,12 +79,12 @@ fn of_policy(policy: &Concrete<Key>) -> Meaning {
         Concrete::Unsatisfiable => Never,
         Concrete::Trivial => Always,
         Concrete::Key(key) => Given((0, key.0)),
-        Concrete::After(lock) => Given((1, lock.0)),
-        Concrete::Older(lock) => Given((2, lock.0)),
-        Concrete::Sha256(hash) => Given((3, *hash)),
-        Concrete::Hash256(hash) => Given((4, *hash)),
-        Concrete::Ripemd160(hash) => Given((5, *hash)),
-        Concrete::Hash160(hash) => Given((6, *hash)),
+        Concrete::After(lock) => Given((1, u64::from(lock.0))),
+        Concrete::Older(lock) => Given((2, u64::from(lock.0))),
+        Concrete::Sha256(hash) => Given((3, u64::from(*hash))),
+        Concrete::Hash256(hash) => Given((4, u64::from(*hash))),
+        Concrete::Ripemd160(hash) => Given((5, u64::from(*hash))),
+        Concrete::Hash160(hash) => Given((6, u64::from(*hash))),
         Concrete::And(list) => AtLeast(list.len(), list.iter().map(|x| of_policy(x)).collect()),
         Concrete::Or(list) => AtLeast(1, list.iter().map(|(_, x)| of_policy(x)).collect()),
         Concrete::Thresh(t) => AtLeast(t.k(), t.iter().map(|x| of_policy(x)).collect()),
@@ -99,12 +99,12 @@ fn of_tree<Ctx: ScriptContext>(node: &Terminal<Key, Ctx>) -> Meaning {
         Terminal::True => Always,
         Terminal::PkK(key) | Terminal::PkH(key) => Given((0, key.0)),
         Terminal::RawPkH(_) => Never,
-        Terminal::After(lock) => Given((1, lock.0)),
-        Terminal::Older(lock) => Given((2, lock.0)),
-        Terminal::Sha256(hash) => Given((3, *hash)),
-        Terminal::Hash256(hash) => Given((4, *hash)),
-        Terminal::Ripemd160(hash) => Given((5, *hash)),
-        Terminal::Hash160(hash) => Given((6, *hash)),
+        Terminal::After(lock) => Given((1, u64::from(lock.0))),
+        Terminal::Older(lock) => Given((2, u64::from(lock.0))),
+        Terminal::Sha256(hash) => Given((3, u64::from(*hash))),
+        Terminal::Hash256(hash) => Given((4, u64::from(*hash))),
+        Terminal::Ripemd160(hash) => Given((5, u64::from(*hash))),
+        Terminal::Hash160(hash) => Given((6, u64::from(*hash))),
         Terminal::Multi(t) => keys(t.k(), t.data()),
         Terminal::MultiA(t) => keys(t.k(), t.data()),
         Terminal::Thresh(t) => AtLeast(t.k(), children),
@@ -244,12 +244,12 @@ const CHANGES: [&str; 4] = ["a key, a hash or a lock", "a k", "a branch", "a wra
 /// A copy with one thing of that sort changed; the same tree where it has none.
 fn changed(random: &mut Random, change: usize, tree: &[u8]) -> Vec<u8> {
     let mut out = tree.to_vec();
-    let kind = |at: usize| u16_at(tree, at + 2);
+    let kind = |at: usize| meant(u16_at(tree, at + 2));
     let fits: Vec<usize> = places(tree)
         .into_iter()
         .filter(|&at| match change {
             0 => (34..=41).contains(&kind(at)) || kind(at) >= 57,
-            1 => kind(at) >= 56,
+            1 => (56..=58).contains(&kind(at)),
             2 => (49..=56).contains(&kind(at)),
             _ => (42..=54).contains(&kind(at)),
         })
@@ -260,9 +260,11 @@ fn changed(random: &mut Random, change: usize, tree: &[u8]) -> Vec<u8> {
     let at = *random.pick(&fits);
     match change {
         0 => {
-            let place = if kind(at) >= 57 { at + 8 + 4 * random.below(u16_at(tree, at + 6)) } else { at + 4 };
-            let number = if random.once_in(2) { u32_at(tree, place) ^ 1 } else { random.below(12) as u32 };
-            out[place..place + 4].copy_from_slice(&number.max(1).to_le_bytes());
+            let width = width(u16_at(tree, at + 2));
+            let place = if kind(at) >= 57 { at + 8 + width * random.below(u16_at(tree, at + 6)) } else { at + 4 };
+            let flipped = number_at(tree, place, width) ^ if width == 8 && random.once_in(2) { 1 << 32 } else { 1 };
+            let number = if random.once_in(2) { flipped } else { random.below(12) as u64 };
+            out[place..place + width].copy_from_slice(&number.max(1).to_le_bytes()[..width]);
         }
         1 => {
             let k = random.between(1, u16_at(tree, at + 6));
@@ -286,29 +288,32 @@ fn changed(random: &mut Random, change: usize, tree: &[u8]) -> Vec<u8> {
 fn corners(desk: &mut Desk, random: &mut Random) {
     let policy = |n: usize, k: usize| {
         let mut out = Writer::default();
-        let keys: Vec<u16> = (0..n).map(|i| out.record(3, &(i as u32).to_le_bytes())).collect();
+        let key = |i: usize| if i % 2 == 0 { (KEY, 4) } else { (LONG_KEY, 8) };
+        let keys: Vec<u16> = (0..n).map(|i| out.record(key(i).0, &(i as u64).to_le_bytes()[..key(i).1])).collect();
         out.record(12, &[u16s(&[k as u16, n as u16]), u16s(&keys)].concat());
         out.bytes
     };
-    let tree = |context: u32, keys: &[u32], k: usize| {
+    let tree = |random: &mut Random, context: u32, keys: &[u64], k: usize| {
         let mut out = Writer::default();
         let list: Vec<u8> = keys.iter().flat_map(|key| key.to_le_bytes()).collect();
-        out.record(57 + context as u16, &[u16s(&[k as u16, keys.len() as u16]), list].concat());
-        out.bytes
+        out.record(107 + context as u16, &[u16s(&[k as u16, keys.len() as u16]), list].concat());
+        mixed(random, &out.bytes)
     };
-    let keys = |n: u32| (0..n).collect::<Vec<u32>>();
+    let keys = |n: u32| (0..u64::from(n)).collect::<Vec<u64>>();
     for context in 0..2 {
         for n in 1..=16u32 {
             for k in 1..=n as usize {
-                let own = tree(context, &keys(n), k);
+                let own = tree(random, context, &keys(n), k);
                 let given = desk.pair(random, context, &policy(n as usize, k), &own);
                 let right = if n as usize > VARIABLES { TOO_MANY_VARIABLES } else { 0 };
                 if given != right {
                     desk.say(format!("{k} of {n} keys in context {context}: {given}, not {right}"));
                 }
                 let mut other = keys(n);
-                other[random.below(n as usize)] = 12;
-                desk.pair(random, context, &policy(n as usize, k), &tree(context, &other, k));
+                let at = random.below(n as usize);
+                other[at] = *random.pick(&[12, other[at] | 1 << 32, u64::MAX]);
+                let other = tree(random, context, &other, k);
+                desk.pair(random, context, &policy(n as usize, k), &other);
                 desk.pair(random, context, &policy(n as usize, 1), &own);
             }
         }
@@ -334,7 +339,7 @@ pub fn run(seed: u64, count: u64, records: usize) -> bool {
             desk.pair(&mut random, context, &policy, &tree);
             continue;
         }
-        let tree = answer.output;
+        let tree = mixed(&mut random, &answer.output);
         let number = desk.pair(&mut random, context, &policy, &tree);
         own[number as usize] += 1;
         let holds_false = places(&tree).iter().any(|&at| u16_at(&tree, at + 2) == 32);
@@ -356,7 +361,7 @@ pub fn run(seed: u64, count: u64, records: usize) -> bool {
             desk.pair(&mut random, context, &policy, other);
         }
         if random.once_in(8) {
-            let broken = damaged(&mut random, &policy);
+            let broken = damaged_any(&mut random, &policy);
             desk.pair(&mut random, context, &broken, &tree);
         }
         last[context as usize] = Some(tree);

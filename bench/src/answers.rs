@@ -2,16 +2,19 @@
 //!
 //! Each heading states something of its cases that is checked as the list is made, so a part can't silently stop showing what it says.
 
-use std::io::{self, Write};
+use std::io::{self, BufRead, Write};
 
 use crate::oracle::{answer, Answer};
-use crate::policies::{and, chain, damaged, damaged_context, key, or, thresh, Maker, Policy, AFTER, HASH160, LOCKS, OLDER, SHA256};
+use crate::policies::{and, chain, damaged, damaged_context, key, long_key, or, thresh, Maker, Policy, AFTER, HASH160, KEY, LOCKS, LONG_KEY, OLDER, SHA256};
 use crate::random::Random;
-use crate::records::{to_hex, u16s, Writer};
+use crate::records::{from_hex, in_old_kinds, meant, records as read_records, to_hex, u16s, Writer};
 use crate::room::{self, Counts};
 
 /// The list as it is stored.
 pub const STORED: &str = include_str!("../../crates/oracle_replay/data/compile.txt");
+
+/// How the headings of document 02's keys begin.
+const LONG_KEYS: &str = "keys of 64 bits";
 
 type Case = (u32, Vec<u8>);
 type Test = fn(&Answer, &Counts) -> bool;
@@ -280,12 +283,60 @@ fn never_children() -> Vec<Case> {
     list.iter().map(|policy| (1, policy.bytes())).collect()
 }
 
+/// Keys of 64 bits: alone, and beside a key of the old kind, with numbers that are its own, that have its low half, and at both ends.
+fn long_keys() -> Vec<Policy> {
+    let numbers = [0, 7, u64::from(MAX), 1 << 32, (1 << 32) + 7, u64::MAX];
+    let mut list: Vec<Policy> = numbers.map(long_key).to_vec();
+    for n in numbers {
+        list.push(and(key(7), long_key(n)));
+        list.push(or(3, long_key(n), 1, and(key(7), long_key(n))));
+        list.push(thresh(2, vec![key(7), long_key(n), key(8)]));
+    }
+    list
+}
+
+/// Policies in which each key is of one kind in one place and of the other in another.
+fn one_key_in_both_kinds() -> Vec<Policy> {
+    vec![
+        and(key(7), long_key(7)),
+        or(1, and(key(1), key(2)), 1, and(long_key(1), long_key(2))),
+        or(9, and(key(1), long_key(2)), 1, and(long_key(1), key(2))),
+        thresh(2, vec![key(1), long_key(1), key(2), long_key(2)]),
+        thresh(1, vec![or(1, key(1), 2, long_key(2)), or(1, long_key(1), 2, key(2))]),
+        and(thresh(2, vec![key(1), key(2), long_key(3)]), thresh(2, vec![long_key(1), long_key(2), key(3)])),
+    ]
+}
+
+/// Records of a key whose length is not that of its kind, and kinds beside document 02's.
+fn bad_long_keys() -> Vec<Vec<u8>> {
+    let of = |kind: u16, length: usize| records(&[(kind, vec![7; length])]);
+    [(LONG_KEY, 0), (LONG_KEY, 4), (LONG_KEY, 7), (LONG_KEY, 9), (KEY, 8), (18, 8), (20, 8), (84, 8), (34, 4)].map(|(kind, length)| of(kind, length)).to_vec()
+}
+
+/// Random cases with keys of both kinds.
+fn random_in_both_kinds(seed: u64, records: usize, count: usize) -> Vec<Case> {
+    let mut random = Random::new(seed);
+    (0..count).map(|_| Maker::new(&mut random).case(records)).collect()
+}
+
+/// An error, if a case whose keys are all below 2^32 is answered otherwise in the old kinds.
+fn same_in_old_kinds(cases: &[Case]) -> Result<(), String> {
+    for (context, policy) in cases {
+        if let Some(old) = in_old_kinds(policy) {
+            if answer(*context, policy)?.0 != answer(*context, &old)?.0 {
+                return Err(format!("context {context}: {} and {} are answered otherwise", to_hex(policy), to_hex(&old)));
+            }
+        }
+    }
+    Ok(())
+}
+
 /// The first `count` random cases with a property.
 fn found(seed: u64, records: usize, count: usize, test: Test) -> Vec<Case> {
     let mut random = Random::new(seed);
     let mut list = Vec::new();
     while list.len() < count {
-        let case = Maker::new(&mut random).case(records);
+        let case = Maker::old(&mut random).case(records);
         if answer(case.0, &case.1).is_ok_and(|(answer, counts)| test(&answer, &counts)) {
             list.push(case);
         }
@@ -298,7 +349,7 @@ fn around(seed: u64, count: usize, wrap: fn(Policy) -> Policy, test: Test) -> Ve
     let mut random = Random::new(seed);
     let mut list = Vec::new();
     while list.len() < count {
-        let case = (1, wrap(Maker::new(&mut random).policy(6, 8)).bytes());
+        let case = (1, wrap(Maker::old(&mut random).policy(6, 8)).bytes());
         if answer(case.0, &case.1).is_ok_and(|(answer, counts)| test(&answer, &counts)) {
             list.push(case);
         }
@@ -313,14 +364,14 @@ fn random_cases(seed: u64, records: usize, count: usize) -> Vec<Case> {
 /// Random cases of at least `low` records.
 fn random_from(seed: u64, low: usize, count: usize) -> Vec<Case> {
     let mut random = Random::new(seed);
-    let cases = std::iter::repeat_with(|| Maker::new(&mut random).case(64));
+    let cases = std::iter::repeat_with(|| Maker::old(&mut random).case(64));
     cases.filter(|(_, policy)| record_count(policy) >= low).take(count).collect()
 }
 
 fn damaged_cases(seed: u64, records: usize, count: usize) -> Vec<Case> {
     let mut random = Random::new(seed);
     let damage = |_| {
-        let (context, policy) = Maker::new(&mut random).case(records);
+        let (context, policy) = Maker::old(&mut random).case(records);
         (damaged_context(&mut random, context), damaged(&mut random, &policy))
     };
     (0..count).map(damage).collect()
@@ -390,6 +441,44 @@ pub fn run(out: &mut impl Write) -> Result<(), String> {
     part(out, "random, to 10 records", &random_cases(106, 10, 300), any)?;
     part(out, "random, to 20 records", &random_cases(107, 20, 120), any)?;
     part(out, "damaged copies, to 12 records", &damaged_cases(108, 12, 500), any)?;
+    let in_both = [policies(one_key_in_both_kinds()), random_in_both_kinds(111, 6, 40)].concat();
+    same_in_old_kinds(&in_both)?;
+    part(out, &format!("{LONG_KEYS}: numbers on both sides of 2^32, beside the same number in the old kind"), &policies(long_keys()), done)?;
+    part(out, &format!("{LONG_KEYS}: one key in both kinds, and random, to 6 records"), &in_both, any)?;
+    part(out, &format!("{LONG_KEYS}: refused with 3, a length that is not the kind's"), &both(bad_long_keys()), refused_with!(3))?;
     eprintln!("bench: answers: {}", room::tall_searches());
     out.flush().map_err(|e| e.to_string())
+}
+
+/// An output in the kinds of document 01; or what it holds that the Rust before document 02 could not have written.
+fn lowered(output: &str) -> Result<String, String> {
+    let bytes = from_hex(output).ok_or("the output is no even number of hexadecimal digits, nor `-`")?;
+    if let Some(record) = read_records(&bytes).iter().find(|record| record.keys().is_some() && meant(record.kind) == record.kind) {
+        return Err(format!("the output has a record of kind {}", record.kind));
+    }
+    in_old_kinds(&bytes).map(|old| to_hex(&old)).ok_or("a key of the output is over 4,294,967,295".to_string())
+}
+
+/// Writes a list of answers as it was before document 02's keys: without the parts of those, and with every output in the old kinds.
+pub fn lower(input: impl BufRead, out: &mut impl Write) -> Result<(), String> {
+    let text = |e: io::Error| e.to_string();
+    let mut passed_over = false;
+    for (at, line) in input.lines().enumerate() {
+        let line = line.map_err(text)?;
+        if let Some(heading) = line.strip_prefix("# ") {
+            passed_over = heading.starts_with(LONG_KEYS);
+        }
+        if passed_over {
+            continue;
+        }
+        let words: Vec<&str> = line.split(' ').collect();
+        match words[..] {
+            [context, policy, number, output, cost, nodes] if !line.starts_with('#') => {
+                let output = lowered(output).map_err(|message| format!("line {}: {message}", at + 1))?;
+                writeln!(out, "{context} {policy} {number} {output} {cost} {nodes}").map_err(text)?;
+            }
+            _ => writeln!(out, "{line}").map_err(text)?,
+        }
+    }
+    out.flush().map_err(text)
 }

@@ -3,8 +3,8 @@
 use std::collections::BTreeSet;
 
 use crate::answers::STORED;
-use crate::oracle;
-use crate::policies::{damaged, thresholds, Maker};
+use crate::oracle::{self, Answer};
+use crate::policies::{damaged_any, thresholds, Maker};
 use crate::port::{self, Results};
 use crate::random::Random;
 use crate::records::{from_hex, to_hex};
@@ -18,33 +18,20 @@ const FENCE: usize = 16;
 const FENCE_WORD: u64 = 0xFEED_FACE_CAFE_BEEF;
 const FENCE_BYTE: u8 = 0xA5;
 
-/// What a call is to give: the number, the bytes, the bits of the cost, whether it is never, and the nodes.
-#[derive(Clone, PartialEq)]
-struct Wanted {
-    number: u32,
-    output: Vec<u8>,
-    cost: u64,
-    never: bool,
-    nodes: u64,
-}
-
-fn refused(number: u32) -> Wanted {
-    Wanted { number, output: Vec::new(), cost: 0, never: false, nodes: 0 }
-}
-
 fn shown(results: &Results) -> String {
     let Results { bytes, cost, never, nodes } = results;
     format!("{bytes} bytes, cost {cost:016X}, never {never}, {nodes} nodes")
 }
 
 /// The memory that is lent, kept from call to call: each call finds the dirt of another.
+#[derive(Default)]
 struct Lent {
     work: Vec<u64>,
     out: Vec<u8>,
 }
 
 /// One call with so much room and work memory; what differs is said.
-fn call(lent: &mut Lent, dirt: u64, context: u32, policy: &[u8], room: usize, words: usize, wanted: &Wanted) -> Result<(), String> {
+fn call(lent: &mut Lent, dirt: u64, context: u32, policy: &[u8], room: usize, words: usize, wanted: &Answer) -> Result<(), String> {
     lent.work.clear();
     lent.work.resize(words, dirt);
     lent.work.resize(words + FENCE, FENCE_WORD);
@@ -55,7 +42,7 @@ fn call(lent: &mut Lent, dirt: u64, context: u32, policy: &[u8], room: usize, wo
     let number = port::compile(context, policy, &mut lent.out[..room], &mut lent.work[..words], &mut results);
     let case = || format!("context {context}, room {room}, work {words}, policy {}", to_hex(policy));
     let bytes = wanted.output.len();
-    let right = Results { bytes: bytes as u64, cost: wanted.cost, never: u32::from(wanted.never), nodes: wanted.nodes };
+    let right = Results { bytes: bytes as u64, cost: wanted.cost, never: u32::from(wanted.never), nodes: wanted.nodes as u64 };
     if number != wanted.number || results != right {
         return Err(format!("{}: the Rust gives {}, {}, the port {number}, {}", case(), wanted.number, shown(&right), shown(&results)));
     }
@@ -75,21 +62,26 @@ fn call(lent: &mut Lent, dirt: u64, context: u32, policy: &[u8], room: usize, wo
 }
 
 /// A case with room enough, and now and then with room that just suffices, with one byte too few, and with work memory of another length.
-fn differs(lent: &mut Lent, random: &mut Random, context: u32, policy: &[u8], wanted: &Wanted) -> Result<(), String> {
+fn differs(lent: &mut Lent, random: &mut Random, context: u32, policy: &[u8], wanted: &Answer) -> Result<(), String> {
     let length = wanted.output.len();
     call(lent, random.next(), context, policy, length + random.below(64), WORK, wanted)?;
     if random.once_in(4) {
         call(lent, random.next(), context, policy, length, WORK, wanted)?;
         if length > 0 {
-            call(lent, random.next(), context, policy, length - 1, WORK, &refused(13))?;
+            call(lent, random.next(), context, policy, length - 1, WORK, &Answer::refused(13))?;
         }
     }
     if random.once_in(8) {
         let words = *random.pick(&[0, 1, WORK - 1, WORK + 1]);
         let number = if context > 1 { 1 } else { 2 };
-        call(lent, random.next(), context, policy, length, words, &refused(number))?;
+        call(lent, random.next(), context, policy, length, words, &Answer::refused(number))?;
     }
     Ok(())
+}
+
+/// What differs between an answer and the port's, called once with room enough.
+pub fn port_gives(context: u32, policy: &[u8], wanted: &Answer) -> Result<(), String> {
+    call(&mut Lent::default(), u64::MAX, context, policy, wanted.output.len(), WORK, wanted)
 }
 
 /// Counts what is given, and says the first differences.
@@ -130,12 +122,12 @@ fn work_is_right() -> bool {
 }
 
 /// A line of the stored list.
-fn stored(line: &str) -> Option<(u32, Vec<u8>, Wanted)> {
+fn stored(line: &str) -> Option<(u32, Vec<u8>, Answer)> {
     let words: Vec<&str> = line.split(' ').collect();
     let [context, policy, number, output, cost, nodes] = words[..] else { return None };
     let bytes = |word: &str| if word == "-" { Some(Vec::new()) } else { from_hex(word) };
     let (cost, never) = if cost == "-" { (0, true) } else { (u64::from_str_radix(cost, 16).ok()?, false) };
-    let wanted = Wanted { number: number.parse().ok()?, output: bytes(output)?, cost, never, nodes: nodes.parse().ok()? };
+    let wanted = Answer { number: number.parse().ok()?, output: bytes(output)?, cost, never, nodes: nodes.parse().ok()? };
     Some((context.parse().ok()?, bytes(policy)?, wanted))
 }
 
@@ -145,7 +137,7 @@ pub fn replay() -> bool {
         return false;
     }
     let mut random = Random::new(1);
-    let mut lent = Lent { work: Vec::new(), out: Vec::new() };
+    let mut lent = Lent::default();
     let mut tally = Tally::new();
     for (at, line) in STORED.lines().enumerate().filter(|(_, line)| !line.starts_with('#')) {
         let Some((context, policy, wanted)) = stored(line) else {
@@ -164,27 +156,20 @@ pub fn run(seed: u64, count: u64, records: usize) -> bool {
         return false;
     }
     let mut random = Random::new(seed);
-    let mut lent = Lent { work: Vec::new(), out: Vec::new() };
+    let mut lent = Lent::default();
     let mut tally = Tally::new();
     let (mut infinite, mut met) = (0, BTreeSet::new());
     for _ in 0..count {
         let (context, mut policy) = Maker::new(&mut random).any_case(records);
         met.extend(thresholds(&policy));
         if random.once_in(10) {
-            policy = damaged(&mut random, &policy);
+            policy = damaged_any(&mut random, &policy);
         }
         match oracle::answer(context, &policy) {
             Ok((answer, counts)) => {
                 infinite += u64::from(counts.infinite);
-                let wanted = Wanted {
-                    number: answer.number,
-                    output: answer.output,
-                    cost: answer.cost,
-                    never: answer.never,
-                    nodes: answer.nodes as u64,
-                };
-                let outcome = differs(&mut lent, &mut random, context, &policy, &wanted);
-                tally.count(wanted.number, outcome);
+                let outcome = differs(&mut lent, &mut random, context, &policy, &answer);
+                tally.count(answer.number, outcome);
             }
             Err(message) => {
                 println!("context {context}, policy {}: {message}", to_hex(&policy));

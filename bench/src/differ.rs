@@ -2,7 +2,7 @@
 
 use crate::port;
 use crate::random::Random;
-use crate::records::{to_hex, u16_at, u16s, u32_at, Writer, TREE_RECORDS};
+use crate::records::{self, long_kind, meant, mixed, to_hex, u16_at, u16s, u32_at, Writer, TREE_RECORDS};
 use crate::room::HEIGHT;
 use crate::trees::{self, CHECK_WORK};
 
@@ -16,52 +16,48 @@ const FENCE: usize = 16;
 const FENCE_WORD: u64 = 0xFEED_FACE_CAFE_BEEF;
 const FENCE_BYTE: u8 = 0xA5;
 
-/// One record: its kind, what stands in it, and its children.
-#[derive(Clone, PartialEq, Eq)]
+/// One record: the kind of fragment, what stands in it, and its children.
+#[derive(Clone)]
 struct Record {
     kind: u16,
+    /// Whether its keys have 8 bytes, which is no difference.
+    long: bool,
     /// The number of a key, a hash or a lock; k, n and the keys of a threshold.
-    numbers: Vec<u32>,
+    numbers: Vec<u64>,
     children: Vec<usize>,
 }
 
 /// The records of a tree that the check passes.
 fn records_of(bytes: &[u8]) -> Vec<Record> {
-    let mut list = Vec::new();
-    let mut at = 0;
-    while at < bytes.len() {
-        let length = u16_at(bytes, at);
-        let kind = u16_at(bytes, at + 2) as u16;
-        let payload = &bytes[at + 4..at + length];
+    let read = |record: &records::Record| {
+        let (kind, payload) = (meant(record.kind) as u16, record.payload);
         let children = |from: usize| (from..payload.len()).step_by(2).map(|place| u16_at(payload, place)).collect();
-        let threshold = || vec![u16_at(payload, 0) as u32, u16_at(payload, 2) as u32];
-        let keys = || (4..payload.len()).step_by(4).map(|place| u32_at(payload, place));
-        list.push(match kind {
-            32..=33 => Record { kind, numbers: vec![], children: vec![] },
-            34..=41 => Record { kind, numbers: vec![u32_at(payload, 0)], children: vec![] },
-            56 => Record { kind, numbers: threshold(), children: children(4) },
-            57..=58 => Record { kind, numbers: threshold().into_iter().chain(keys()).collect(), children: vec![] },
-            _ => Record { kind, numbers: vec![], children: children(0) },
-        });
-        at += length;
-    }
-    list
+        let threshold = || vec![u16_at(payload, 0) as u64, u16_at(payload, 2) as u64];
+        let keys = || record.keys().map_or(vec![], |(_, keys)| keys);
+        let (numbers, children) = match kind {
+            32..=33 => (vec![], vec![]),
+            34..=35 => (keys(), vec![]),
+            36..=41 => (vec![u64::from(u32_at(payload, 0))], vec![]),
+            56 => (threshold(), children(4)),
+            57..=58 => ([threshold(), keys()].concat(), vec![]),
+            _ => (vec![], children(0)),
+        };
+        Record { kind, long: record.kind != usize::from(kind), numbers, children }
+    };
+    records::records(bytes).iter().map(read).collect()
 }
 
 /// Records as bytes.
 fn bytes_of(records: &[Record]) -> Vec<u8> {
     let mut out = Writer::default();
     for record in records {
-        let numbers: Vec<u8> = match record.kind {
-            56..=58 => {
-                let front = u16s(&[record.numbers[0] as u16, record.numbers[1] as u16]);
-                let keys = record.numbers[2..].iter().flat_map(|key| key.to_le_bytes());
-                front.into_iter().chain(keys).collect()
-            }
-            _ => record.numbers.iter().flat_map(|n| n.to_le_bytes()).collect(),
-        };
+        let long = long_kind(usize::from(record.kind)).filter(|_| record.long);
+        let width = if long.is_some() { 8 } else { 4 };
+        let (front, rest) = record.numbers.split_at(if (56..=58).contains(&record.kind) { 2 } else { 0 });
+        let front: Vec<u16> = front.iter().map(|&n| n as u16).collect();
+        let rest: Vec<u8> = rest.iter().flat_map(|n| n.to_le_bytes()[..width].to_vec()).collect();
         let children: Vec<u16> = record.children.iter().map(|&child| child as u16).collect();
-        out.record(record.kind, &[numbers, u16s(&children)].concat());
+        out.record(long.map_or(record.kind, |kind| kind as u16), &[u16s(&front), rest, u16s(&children)].concat());
     }
     out.bytes
 }
@@ -195,17 +191,18 @@ fn change(random: &mut Random, records: &mut [Record]) {
         34 | 35 if random.once_in(3) => record.kind = 69 - record.kind,
         36 | 37 if random.once_in(3) => record.kind = 73 - record.kind,
         38..=41 if random.once_in(3) => record.kind = random.between(38, 41) as u16,
-        34..=41 => record.numbers[0] = 1 + (record.numbers[0] + random.between(1, 3) as u32) % 1_000,
+        34..=35 if record.long && random.once_in(2) => record.numbers[0] ^= 1 << random.below(64),
+        34..=41 => record.numbers[0] = 1 + (record.numbers[0] % 1_000 + random.between(1, 3) as u64) % 1_000,
         42..=48 => record.kind = random.between(42, 48) as u16,
         49..=54 if random.once_in(2) => record.kind = random.between(49, 54) as u16,
         49..=55 => record.children.reverse(),
         56 if random.once_in(2) => record.children.reverse(),
-        56 => record.numbers[0] = random.between(1, record.numbers[1] as usize) as u32,
+        56 => record.numbers[0] = random.between(1, record.numbers[1] as usize) as u64,
         _ => match random.below(4) {
-            0 => record.numbers[0] = random.between(1, record.numbers[1] as usize) as u32,
+            0 => record.numbers[0] = random.between(1, record.numbers[1] as usize) as u64,
             1 if record.numbers[1] < 16 => {
                 record.numbers[1] += 1;
-                record.numbers.push(random.below(20) as u32);
+                record.numbers.push(random.below(20) as u64);
             }
             2 if record.numbers[1] > record.numbers[0] => {
                 record.numbers[1] -= 1;
@@ -213,7 +210,7 @@ fn change(random: &mut Random, records: &mut [Record]) {
             }
             _ => {
                 let key = random.between(2, record.numbers.len() - 1);
-                record.numbers[key] ^= 1 << random.below(32);
+                record.numbers[key] ^= 1 << random.below(if record.long { 64 } else { 32 });
             }
         },
     }
@@ -234,8 +231,8 @@ fn changed(random: &mut Random, context: u32, records: &[Record], times: usize) 
 }
 
 /// A record over others of a list, and its number.
-fn put(list: &mut Vec<Record>, kind: u16, numbers: Vec<u32>, children: Vec<usize>) -> usize {
-    list.push(Record { kind, numbers, children });
+fn put(list: &mut Vec<Record>, kind: u16, numbers: Vec<u64>, children: Vec<usize>) -> usize {
+    list.push(Record { kind, long: list.len() % 2 == 1, numbers, children });
     list.len() - 1
 }
 
@@ -246,13 +243,13 @@ fn part(random: &mut Random, context: u32, list: &mut Vec<Record>, levels: usize
         1 => {
             let n = random.between(1, 16);
             let k = random.between(1, n);
-            let mut numbers = vec![k as u32, n as u32];
-            numbers.extend((0..n).map(|_| random.below(20) as u32));
+            let mut numbers = vec![k as u64, n as u64];
+            numbers.extend((0..n).map(|_| random.below(20) as u64));
             put(list, 57 + context as u16, numbers, vec![])
         }
-        2 => put(list, random.between(38, 41) as u16, vec![random.below(20) as u32], vec![]),
+        2 => put(list, random.between(38, 41) as u16, vec![random.below(20) as u64], vec![]),
         _ => {
-            let key = put(list, random.between(34, 35) as u16, vec![random.below(20) as u32], vec![]);
+            let key = put(list, random.between(34, 35) as u16, vec![random.below(20) as u64], vec![]);
             put(list, 44, vec![], vec![key])
         }
     }
@@ -266,7 +263,7 @@ fn threshold(random: &mut Random, context: u32, list: &mut Vec<Record>, levels: 
         let other = part(random, context, list, levels);
         children.push(put(list, 42, vec![], vec![other]));
     }
-    put(list, 56, vec![random.between(1, n - 1) as u32, n as u32], children)
+    put(list, 56, vec![random.between(1, n - 1) as u64, n as u64], children)
 }
 
 /// A tree with such a Thresh: by itself, or as a branch of an OrI beside a random tree that suits.
@@ -333,8 +330,10 @@ fn left_tree(random: &mut Random, context: u32, pair: usize, records: usize) -> 
 
 /// What the right tree of a pair is.
 const CHILD_LESS: usize = 4;
-const PAIRS: [&str; 7] =
-    ["the same in another order", "one record changed", "two records changed", "many records changed", "a child less", "another tree", "a refused tree"];
+const PAIRS: [&str; 7] = [
+    "the same in another order and other kinds", "one record changed", "two records changed", "many records changed", "a child less", "another tree",
+    "a refused tree",
+];
 
 /// The right tree of a pair whose left tree passes the check.
 fn partner(random: &mut Random, context: u32, pair: usize, left: &[u8], records: usize) -> Vec<u8> {
@@ -355,7 +354,7 @@ fn partner(random: &mut Random, context: u32, pair: usize, left: &[u8], records:
         }
     };
     let other = if pair == 0 || random.once_in(2) { renumbered(random, &other) } else { other };
-    bytes_of(&other)
+    mixed(random, &bytes_of(&other))
 }
 
 /// A pair with room enough; with the room that just suffices and a byte less; both ways round; now and then with other work memory, and in no context.
@@ -392,13 +391,17 @@ fn corners(desk: &mut Desk, random: &mut Random) {
     let long = [4, 0, 33, 0].repeat(TREE_RECORDS + 1);
     let low = chain(&[48], 3);
     let key = |n: u8| [8, 0, 34, 0, n, 0, 0, 0, 6, 0, 44, 0, 0, 0];
+    let long_key = |n: u8, high: u8| [12, 0, 84, 0, n, 0, 0, 0, high, 0, 0, 0, 6, 0, 44, 0, 0, 0];
     for (left, right) in [(&deep, &deep), (&deep, &low), (&low, &deep)] {
         run_pair(desk, random, 0, left, right);
     }
     let ill_typed = [4, 0, 33, 0, 6, 0, 44, 0, 0, 0];
-    let list: [(u32, u32, &[u8], &[u8], usize, usize); 12] = [
+    let list: [(u32, u32, &[u8], &[u8], usize, usize); 15] = [
         (0, 0, &key(7), &key(7), 0, WORK),
         (0, 1, &key(7), &key(8), 8, WORK),
+        (0, 0, &key(7), &long_key(7, 0), 0, WORK),
+        (0, 1, &key(7), &long_key(7, 1), 8, WORK),
+        (OUTPUT_TOO_SMALL, 0, &key(7), &long_key(7, 1), 7, WORK),
         (1, 2, &[], &[], 0, 0),
         (2, 0, &[], &[], 0, WORK - 1),
         (14, 0, &[], &ill_typed, 0, WORK),

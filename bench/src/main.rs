@@ -57,6 +57,8 @@ mod encode;
 mod figures;
 #[cfg(port)]
 mod index;
+#[cfg(port)]
+mod movers;
 mod oracle;
 mod outline;
 mod policies;
@@ -74,13 +76,14 @@ mod speed;
 mod spends;
 mod tapscript;
 mod trees;
+mod vectors;
 #[cfg(port)]
 mod witness;
 
 use std::io::{self, BufWriter, Write};
 use std::process::ExitCode;
 
-use policies::{damaged, damaged_context, Maker};
+use policies::{damaged_any, damaged_context, Maker};
 use random::Random;
 use records::to_hex;
 
@@ -90,11 +93,14 @@ const USAGE: &str = "usage:
   bench gen SEED COUNT MAXRECORDS      writes COUNT random lines `CONTEXT POLICY`, of 1 to MAXRECORDS (at most 64) records
   bench damage SEED COUNT MAXRECORDS   writes damaged copies of such lines
   bench answers                        writes the stored list, crates/oracle_replay/data/compile.txt, anew
+  bench lower                          writes the list of answers of standard input in the kinds of document 01, without the parts of keys of 64 bits
+  bench vectors                        compares the lines of standard input, answers of compile or of the check made elsewhere, with the Rust and the port
   bench figures                        compares the Rust's costs with document 01's figures
   bench decode SEED COUNT MAXRECORDS   writes small, stored and COUNT random trees as scripts and has the Rust's decoder read them back
   bench check SEED COUNT MAXRECORDS    runs COUNT random trees of each flavour and context through the Rust's type rules and the port
   bench compile SEED COUNT MAXRECORDS  runs COUNT random policies, some damaged, through the Rust and the port
   bench replay                         runs the stored list through the port
+  bench movers SEED COUNT MAXRECORDS   runs COUNT random policies, some damaged, through a mover of its own and the port, both ways
   bench script SEED COUNT MAXRECORDS   runs COUNT random trees of each flavour and context, and tables, through the Rust's decoder and the port
   bench speed [all | port]             times the Rust's unmodified compiler and the port over 200 policies; `all` says a line for each policy,
                                        `port` runs the port alone and says nothing, for a profiler
@@ -138,7 +144,7 @@ fn generate(words: [&str; 3], damage: bool) -> Result<bool, String> {
         let (mut context, mut policy) = Maker::new(&mut random).any_case(records);
         if damage {
             context = damaged_context(&mut random, context);
-            policy = damaged(&mut random, &policy);
+            policy = damaged_any(&mut random, &policy);
         }
         writeln!(out, "{context} {}", to_hex(&policy)).map_err(|e| format!("bench: {e}\n"))?;
     }
@@ -161,6 +167,12 @@ fn compile(words: [&str; 3]) -> Result<bool, String> {
 #[cfg(port)]
 fn replay() -> Result<bool, String> {
     Ok(compile::replay())
+}
+
+#[cfg(port)]
+fn movers(words: [&str; 3]) -> Result<bool, String> {
+    let (seed, count, records) = numbers(words, 64)?;
+    Ok(movers::run(seed, count, records))
 }
 
 #[cfg(port)]
@@ -196,6 +208,11 @@ fn compile(_: [&str; 3]) -> Result<bool, String> {
 
 #[cfg(not(port))]
 fn replay() -> Result<bool, String> {
+    no_port()
+}
+
+#[cfg(not(port))]
+fn movers(_: [&str; 3]) -> Result<bool, String> {
     no_port()
 }
 
@@ -293,9 +310,12 @@ fn run(words: &[&str]) -> Result<bool, String> {
                 Ok(false)
             }
         },
+        ["lower"] => answers::lower(io::stdin().lock(), &mut BufWriter::new(io::stdout().lock())).map(|()| true).map_err(|e| format!("bench: {e}\n")),
+        ["vectors"] => vectors::run(io::stdin().lock()).map_err(|e| format!("bench: {e}\n")),
         ["check", seed, count, records] => check([seed, count, records]),
         ["compile", seed, count, records] => compile([seed, count, records]),
         ["replay"] => replay(),
+        ["movers", seed, count, records] => movers([seed, count, records]),
         ["script", seed, count, records] => script([seed, count, records]),
         ["speed"] => speed(""),
         ["speed", word] => speed(word),

@@ -32,7 +32,7 @@ pub struct Answer {
 }
 
 impl Answer {
-    fn refused(number: u32) -> Self {
+    pub fn refused(number: u32) -> Self {
         Answer { number, output: vec![], cost: 0, never: false, nodes: 0 }
     }
 }

@@ -96,9 +96,9 @@ pub struct Lent<'a> {
 
 impl Lent<'_> {
     /// Entry i of a table, if all of it is there.
-    fn entry(&self, table: usize, i: u32) -> Option<Vec<u8>> {
+    fn entry(&self, table: usize, i: u64) -> Option<Vec<u8>> {
         let size = sizes(self.context)[table];
-        self.tables[table].chunks_exact(size).nth(i as usize).map(<[u8]>::to_vec)
+        self.tables[table].chunks_exact(size).nth(usize::try_from(i).ok()?).map(<[u8]>::to_vec)
     }
 }
 
@@ -112,19 +112,19 @@ impl Bytes<Key> for Lent<'_> {
     }
 
     fn sha256(&self, hash: &u32) -> Option<Vec<u8>> {
-        self.entry(2, *hash)
+        self.entry(2, u64::from(*hash))
     }
 
     fn hash256(&self, hash: &u32) -> Option<Vec<u8>> {
-        self.entry(2, *hash)
+        self.entry(2, u64::from(*hash))
     }
 
     fn ripemd160(&self, hash: &u32) -> Option<Vec<u8>> {
-        self.entry(3, *hash)
+        self.entry(3, u64::from(*hash))
     }
 
     fn hash160(&self, hash: &u32) -> Option<Vec<u8>> {
-        self.entry(3, *hash)
+        self.entry(3, u64::from(*hash))
     }
 }
 

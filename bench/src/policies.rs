@@ -1,7 +1,7 @@
 //! Policies made for the bench: random ones of every kind and shape, and damaged copies that reach every refusal of the reader.
 
 use crate::random::Random;
-use crate::records::{u16s, Writer};
+use crate::records::{meant, u16s, Writer};
 
 /// A policy, before it is written as records.
 #[derive(Clone, Debug)]
@@ -10,14 +10,17 @@ pub enum Policy {
     Trivial,
     /// A leaf of kind 3 to 9, and its number.
     Leaf(u16, u32),
+    /// A key in document 02's kind.
+    LongKey(u64),
     And(Box<[Policy; 2]>),
     Or(Box<[Policy; 2]>, [u32; 2]),
     Thresh(usize, Vec<Policy>),
 }
 
-use Policy::{Leaf, Thresh, Trivial, Unsatisfiable};
+use Policy::{Leaf, LongKey, Thresh, Trivial, Unsatisfiable};
 
 pub const KEY: u16 = 3;
+pub const LONG_KEY: u16 = 19;
 pub const AFTER: u16 = 4;
 pub const OLDER: u16 = 5;
 pub const SHA256: u16 = 6;
@@ -36,6 +39,10 @@ pub fn key(n: u32) -> Policy {
     Leaf(KEY, n)
 }
 
+pub fn long_key(n: u64) -> Policy {
+    LongKey(n)
+}
+
 pub fn and(x: Policy, y: Policy) -> Policy {
     Policy::And(Box::new([x, y]))
 }
@@ -51,7 +58,7 @@ pub fn thresh(k: usize, children: Vec<Policy>) -> Policy {
 impl Policy {
     fn children(&self) -> &[Policy] {
         match self {
-            Unsatisfiable | Trivial | Leaf(..) => &[],
+            Unsatisfiable | Trivial | Leaf(..) | LongKey(_) => &[],
             Policy::And(children) | Policy::Or(children, _) => &children[..],
             Thresh(_, children) => children,
         }
@@ -70,6 +77,7 @@ impl Policy {
             Unsatisfiable => out.record(1, &[]),
             Trivial => out.record(2, &[]),
             Leaf(kind, number) => out.record(*kind, &number.to_le_bytes()),
+            LongKey(number) => out.record(LONG_KEY, &number.to_le_bytes()),
             Policy::And(_) => out.record(10, &u16s(numbers)),
             Policy::Or(_, weights) => {
                 let mut payload = u16s(numbers);
@@ -130,17 +138,39 @@ pub struct Maker<'a> {
     barren: bool,
     /// Whether all weights are at their ends, so that probabilities are near 0 and near 1.
     extreme: bool,
+    /// Whether keys are of both kinds.
+    both_kinds: bool,
 }
 
 impl<'a> Maker<'a> {
     pub fn new(random: &'a mut Random) -> Self {
-        Maker { random, made: Vec::new(), others: 2, deep: false, barren: false, extreme: false }
+        Maker { both_kinds: true, ..Maker::old(random) }
+    }
+
+    /// A maker of policies whose keys are all of document 01's kind.
+    pub fn old(random: &'a mut Random) -> Self {
+        Maker { random, made: Vec::new(), others: 2, deep: false, barren: false, extreme: false, both_kinds: false }
     }
 
     fn number(&mut self) -> u32 {
         match self.random.below(8) {
             0 => *self.random.pick(&[0, 1, 255, 256, 65_535, 65_536, 4_294_967_294, 4_294_967_295]),
             _ => self.random.below(12) as u32,
+        }
+    }
+
+    /// A key of either kind. Few numbers are met, so that one is met in both kinds, and so are numbers above 2^32 whose low half is one of them.
+    fn key(&mut self) -> Policy {
+        let number = self.number();
+        if !self.both_kinds {
+            return key(number);
+        }
+        let low = u64::from(number);
+        match self.random.below(6) {
+            0 | 1 => key(number),
+            2 | 3 => long_key(low),
+            4 => long_key(low | *self.random.pick(&[1 << 32, 1 << 32, 1 << 33, 1 << 63])),
+            _ => long_key(*self.random.pick(&[1 << 32, (1 << 33) - 1, 1 << 63, u64::MAX - 1, u64::MAX])),
         }
     }
 
@@ -166,7 +196,7 @@ impl<'a> Maker<'a> {
             return if self.random.once_in(3) { Trivial } else { Unsatisfiable };
         }
         if !self.random.once_in(self.others) {
-            return key(self.number());
+            return self.key();
         }
         match self.random.below(12) {
             0 => Unsatisfiable,
@@ -238,7 +268,7 @@ impl<'a> Maker<'a> {
 
     fn all_keys(&mut self, records: usize) -> Policy {
         let n = self.random.between(1, 16.min(records - 1));
-        let children = (0..n).map(|_| key(self.number())).collect();
+        let children = (0..n).map(|_| self.key()).collect();
         Thresh(self.threshold_number(n), children)
     }
 
@@ -279,7 +309,7 @@ impl<'a> Maker<'a> {
         (self.random.below(2) as u32, policy.bytes())
     }
 
-    /// A context and the bytes of a policy, one in three at the edge. `case` alone makes those of the stored list.
+    /// A context and the bytes of a policy, one in three at the edge. `case` of an old maker alone makes those of the stored list.
     pub fn any_case(&mut self, records: usize) -> (u32, Vec<u8>) {
         if self.random.once_in(3) {
             self.edge_case(records)
@@ -318,7 +348,47 @@ pub fn thresholds(bytes: &[u8]) -> Vec<(u8, u8)> {
     places(bytes).iter().filter(|place| place.1 == 12).map(|place| (bytes[place.0 + 4], bytes[place.0 + 6])).collect()
 }
 
-/// A damaged copy: one thing is broken, of those that the policy has.
+/// A copy with one key broken: its kind, its length, or both.
+fn damaged_key(random: &mut Random, bytes: &[u8]) -> Vec<u8> {
+    let keys: Vec<(usize, u16)> = places(bytes).into_iter().filter(|place| meant(usize::from(place.1)) == usize::from(KEY)).collect();
+    let mut out = bytes.to_vec();
+    if keys.is_empty() {
+        return out;
+    }
+    let (at, kind) = *random.pick(&keys);
+    let length = usize::from(bytes[at]);
+    match random.below(4) {
+        // The other kind at the same length.
+        0 => out[at + 2] = (KEY + LONG_KEY - kind) as u8,
+        // The other length at the same kind.
+        1 => {
+            let other = 20 - length;
+            let payload: Vec<u8> = bytes[at + 4..at + length].iter().copied().chain([0; 4]).take(other - 4).collect();
+            out.splice(at..at + length, [&[other as u8, 0, kind as u8, 0], &payload[..]].concat());
+        }
+        // A byte more or less.
+        2 => {
+            out[at] = length as u8 + 1;
+            out.insert(at + length, random.next() as u8);
+        }
+        _ => {
+            out[at] = length as u8 - 1;
+            out.remove(at + length - 1);
+        }
+    }
+    out
+}
+
+/// A damaged copy of a policy with keys of both kinds.
+pub fn damaged_any(random: &mut Random, bytes: &[u8]) -> Vec<u8> {
+    if random.once_in(5) {
+        damaged_key(random, bytes)
+    } else {
+        damaged(random, bytes)
+    }
+}
+
+/// A damaged copy: one thing is broken, of those that the policy has. It alone makes those of the stored list.
 pub fn damaged(random: &mut Random, bytes: &[u8]) -> Vec<u8> {
     let places = places(bytes);
     let mut out = bytes.to_vec();

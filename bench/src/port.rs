@@ -108,6 +108,8 @@ extern "C" {
         work_len: u64,
     ) -> u32;
     fn claspwillow_accept_work() -> u64;
+    fn claspwillow_to_new(policy: *const u8, policy_len: u64, out: *mut u8, out_len: u64, bytes: *mut u64) -> u32;
+    fn claspwillow_to_old(policy: *const u8, policy_len: u64, out: *mut u8, out_len: u64, bytes: *mut u64) -> u32;
 }
 
 /// The words of work memory that the check asks for.
@@ -156,6 +158,18 @@ pub fn compile(context: u32, policy: &[u8], out: &mut [u8], work: &mut [u64], re
             nodes,
         )
     }
+}
+
+/// The number, and the count of bytes as the call left it.
+pub fn to_new(policy: &[u8], out: &mut [u8], bytes: &mut u64) -> u32 {
+    // SAFETY: each slice is passed as its own pointer and length, and the result as a pointer to one number.
+    unsafe { claspwillow_to_new(policy.as_ptr(), policy.len() as u64, out.as_mut_ptr(), out.len() as u64, bytes) }
+}
+
+/// The number, and the count of bytes as the call left it.
+pub fn to_old(policy: &[u8], out: &mut [u8], bytes: &mut u64) -> u32 {
+    // SAFETY: each slice is passed as its own pointer and length, and the result as a pointer to one number.
+    unsafe { claspwillow_to_old(policy.as_ptr(), policy.len() as u64, out.as_mut_ptr(), out.len() as u64, bytes) }
 }
 
 /// The words of work memory that script asks for.

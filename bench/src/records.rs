@@ -1,8 +1,10 @@
-//! Document 01's record form: policies read as it tells, fragment trees written.
+//! Document 01's record form, with document 02's kinds for keys of 64 bits: policies read as they tell, fragment trees written, and records moved
+//! from one kind of key to the other.
 
 use crate::keys::Key;
 use crate::miniscript::ScriptContext;
 use crate::policy::Concrete;
+use crate::random::Random;
 use crate::sync::Arc;
 use crate::{AbsLockTime, Miniscript, RelLockTime, Terminal, Threshold};
 
@@ -23,6 +25,101 @@ pub fn u16_at(bytes: &[u8], at: usize) -> usize {
 
 pub fn u32_at(bytes: &[u8], at: usize) -> u32 {
     u32::from_le_bytes([bytes[at], bytes[at + 1], bytes[at + 2], bytes[at + 3]])
+}
+
+/// The number of so many bytes, the low one first.
+pub fn number_at(bytes: &[u8], at: usize, width: usize) -> u64 {
+    bytes[at..at + width].iter().rev().fold(0, |number, &byte| number << 8 | u64::from(byte))
+}
+
+/// The kinds of records that hold keys: in a policy Key, in a tree PkK, PkH, Multi and MultiA. Each is written in two kinds, with numbers of 4 bytes
+/// and of 8; the second kind is so much higher than the first.
+const KEY_KINDS: [(usize, usize); 5] = [(3, 16), (34, 50), (35, 50), (57, 50), (58, 50)];
+
+/// The kind, of those that document 01 has, that a written kind stands for.
+pub fn meant(written: usize) -> usize {
+    KEY_KINDS.iter().find(|(kind, more)| kind + more == written).map_or(written, |(kind, _)| *kind)
+}
+
+/// The bytes of a number in a record of this written kind.
+pub fn width(written: usize) -> usize {
+    if meant(written) == written {
+        4
+    } else {
+        8
+    }
+}
+
+/// The kind in which a record is written whose numbers have 8 bytes, if it holds keys.
+pub fn long_kind(kind: usize) -> Option<usize> {
+    KEY_KINDS.iter().find(|(short, _)| *short == kind).map(|(short, more)| short + more)
+}
+
+/// One record as it is written, of bytes that are of the form.
+pub struct Record<'a> {
+    pub kind: usize,
+    pub payload: &'a [u8],
+}
+
+/// The records of bytes that are of the form.
+pub fn records(bytes: &[u8]) -> Vec<Record<'_>> {
+    let mut list = Vec::new();
+    let mut at = 0;
+    while at < bytes.len() {
+        let length = u16_at(bytes, at);
+        list.push(Record { kind: u16_at(bytes, at + 2), payload: &bytes[at + 4..at + length] });
+        at += length;
+    }
+    list
+}
+
+impl Record<'_> {
+    /// What stands before the keys, k and n of Multi and MultiA, and the keys; none, if the record holds no keys.
+    pub fn keys(&self) -> Option<(&[u8], Vec<u64>)> {
+        let kind = meant(self.kind);
+        long_kind(kind)?;
+        let (front, keys) = self.payload.split_at(if kind >= 57 { 4 } else { 0 });
+        let size = width(self.kind);
+        Some((front, (0..keys.len() / size).map(|i| number_at(keys, i * size, size)).collect()))
+    }
+}
+
+/// The records with each that holds keys in the kind that `long` asks for, and all else as it is; none, if a key is too large for its kind.
+pub fn in_kinds(bytes: &[u8], mut long: impl FnMut(&[u64]) -> bool) -> Option<Vec<u8>> {
+    let mut out = Writer::default();
+    for record in records(bytes) {
+        let Some((front, keys)) = record.keys() else {
+            out.record(record.kind as u16, record.payload);
+            continue;
+        };
+        let kind = meant(record.kind);
+        let mut payload = front.to_vec();
+        if long(&keys) {
+            payload.extend(keys.iter().flat_map(|key| key.to_le_bytes()));
+            out.record(long_kind(kind)? as u16, &payload);
+        } else {
+            let short = keys.iter().map(|&key| u32::try_from(key).ok()).collect::<Option<Vec<u32>>>()?;
+            payload.extend(short.iter().flat_map(|key| key.to_le_bytes()));
+            out.record(kind as u16, &payload);
+        }
+    }
+    Some(out.bytes)
+}
+
+/// The records with each that holds keys in either of its kinds, where they fit.
+pub fn mixed(random: &mut Random, bytes: &[u8]) -> Vec<u8> {
+    let large = |key: &u64| *key > u64::from(u32::MAX);
+    in_kinds(bytes, |keys| keys.iter().any(large) || random.once_in(2)).expect("a key that is too large is written in 8 bytes")
+}
+
+/// The records with every key in the kinds of document 02.
+pub fn in_new_kinds(bytes: &[u8]) -> Vec<u8> {
+    in_kinds(bytes, |_| true).expect("8 bytes hold every key")
+}
+
+/// The records with every key in the kinds of document 01, if all of them fit.
+pub fn in_old_kinds(bytes: &[u8]) -> Option<Vec<u8>> {
+    in_kinds(bytes, |_| false)
 }
 
 /// The policy that the bytes write, or document 01's number of their refusal.
@@ -62,7 +159,7 @@ pub fn read_policy(bytes: &[u8]) -> Result<Arc<Concrete<Key>>, u32> {
 
 /// One record's policy and depth: kind, length for the kind, numbers, children, weights, in this order.
 fn read_record(
-    kind: usize,
+    written: usize,
     payload: &[u8],
     read: &[Arc<Concrete<Key>>],
     depths: &[usize],
@@ -79,6 +176,7 @@ fn read_record(
         depth = depth.max(1 + depths[number]);
         Ok(Arc::clone(&read[number]))
     };
+    let kind = meant(written);
     let policy = match kind {
         1 | 2 => {
             form(payload.is_empty())?;
@@ -88,11 +186,14 @@ fn read_record(
                 Concrete::Trivial
             }
         }
-        3..=9 => {
+        3 => {
+            form(payload.len() == width(written))?;
+            Concrete::Key(Key(number_at(payload, 0, width(written))))
+        }
+        4..=9 => {
             form(payload.len() == 4)?;
             let number = u32_at(payload, 0);
             match kind {
-                3 => Concrete::Key(Key(number)),
                 4 | 5 => {
                     form((1..=LOCK_MAX).contains(&number))?;
                     if kind == 4 {
@@ -176,8 +277,8 @@ fn write_node<Ctx: ScriptContext>(out: &mut Writer, node: &Terminal<Key, Ctx>) -
     let (kind, payload) = match node {
         Terminal::False => (32, vec![]),
         Terminal::True => (33, vec![]),
-        Terminal::PkK(key) => (34, key.0.to_le_bytes().to_vec()),
-        Terminal::PkH(key) => (35, key.0.to_le_bytes().to_vec()),
+        Terminal::PkK(key) => (84, key.0.to_le_bytes().to_vec()),
+        Terminal::PkH(key) => (85, key.0.to_le_bytes().to_vec()),
         Terminal::RawPkH(_) => unreachable!("the compiler makes no raw key hash"),
         Terminal::After(lock) => (36, lock.0.to_le_bytes().to_vec()),
         Terminal::Older(lock) => (37, lock.0.to_le_bytes().to_vec()),
@@ -204,8 +305,8 @@ fn write_node<Ctx: ScriptContext>(out: &mut Writer, node: &Terminal<Key, Ctx>) -
             payload.extend(children(&t.iter().collect::<Vec<_>>())?);
             (56, payload)
         }
-        Terminal::Multi(t) => (57, keys(t.k(), t.data())),
-        Terminal::MultiA(t) => (58, keys(t.k(), t.data())),
+        Terminal::Multi(t) => (107, keys(t.k(), t.data())),
+        Terminal::MultiA(t) => (108, keys(t.k(), t.data())),
     };
     if out.records == TREE_RECORDS {
         return Err(OUTPUT_TOO_SMALL);

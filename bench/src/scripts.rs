@@ -229,6 +229,24 @@ fn refusals(desk: &mut Desk, random: &mut Random) {
     }
 }
 
+/// A key of 64 bits, in each kind of record, whose entry would lie within the table if its place were counted with fewer bits; all are 17.
+fn far_keys(desk: &mut Desk, random: &mut Random) {
+    for (context, number) in (0..2).flat_map(|context| trees::FURTHER.map(|number| (context, number))) {
+        let key = number.to_le_bytes().to_vec();
+        let list = [(84, key.clone()), (85, key.clone()), (107 + context as u16, [u16s(&[1, 2]), vec![0; 8], key].concat())];
+        for (kind, payload) in list {
+            let tables = random_tables(random, context, [ENTRIES; 4]);
+            let case = Case { context, tree: tree(&[(kind, payload)]), tables };
+            let answer = script(&case);
+            if answer.as_ref().err() != Some(&NO_ENTRY) {
+                println!("key {number} has an entry by the bench's own reading");
+                desk.differences += 1;
+            }
+            desk.call(random.next(), &case, 1_000, CHECK_WORK, &answer);
+        }
+    }
+}
+
 /// COUNT trees of each flavour in each context; gives whether the port agrees on all of them.
 pub fn run(seed: u64, count: u64, records: usize) -> bool {
     if port::script_work() != CHECK_WORK {
@@ -252,6 +270,7 @@ pub fn run(seed: u64, count: u64, records: usize) -> bool {
     }
     desk.numbers = [0; 20];
     refusals(&mut desk, &mut random);
+    far_keys(&mut desk, &mut random);
     println!("each refusal: given {}", desk.given());
     for number in REFUSALS.iter().filter(|&&n| desk.numbers[n as usize] == 0) {
         println!("{number} was not given");

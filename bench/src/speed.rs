@@ -80,7 +80,7 @@ fn cases() -> Result<(Vec<Case>, usize), String> {
         let mut given: Vec<(u32, Vec<u8>)> = if size == SIZES[0] { vec![(1, desk.clone()), (0, desk.clone())] } else { vec![] };
         let mut taken = 0;
         while taken < EACH {
-            let (context, bytes) = given.pop().unwrap_or_else(|| Maker::new(&mut random).case(size));
+            let (context, bytes) = given.pop().unwrap_or_else(|| Maker::old(&mut random).case(size));
             let (answer, counts) = oracle::answer(context, &bytes)?;
             if ![0, 11, 12].contains(&answer.number) {
                 left_out += 1;

@@ -7,7 +7,7 @@ use crate::miniscript::types::{Base, Dissat, ExtData, Input, Type};
 use crate::miniscript::ScriptContext;
 use crate::policies::LOCKS;
 use crate::random::Random;
-use crate::records::{u16_at, u16s, u32_at, Writer, LOCK_MAX, THRESH_MAX, TREE_RECORDS};
+use crate::records::{long_kind, meant, mixed, number_at, u16_at, u16s, u32_at, width, Writer, LOCK_MAX, THRESH_MAX, TREE_RECORDS};
 use crate::room::HEIGHT;
 use crate::sync::Arc;
 use crate::{tapscript, AbsLockTime, Miniscript, RelLockTime, Terminal, Threshold};
@@ -113,7 +113,8 @@ fn typed<Ctx: ScriptContext>(node: &Terminal<Key, Ctx>) -> Result<Type, u32> {
 }
 
 /// One record's fragment over the trees that it takes.
-fn read_node<Ctx: ScriptContext>(kind: usize, payload: &[u8], slots: &mut [Option<Child<Ctx>>]) -> Result<Terminal<Key, Ctx>, u32> {
+fn read_node<Ctx: ScriptContext>(written: usize, payload: &[u8], slots: &mut [Option<Child<Ctx>>]) -> Result<Terminal<Key, Ctx>, u32> {
+    let (kind, width) = (meant(written), width(written));
     let form = |right: bool| if right { Ok(()) } else { Err(BAD_TREE) };
     let mut children = |from: usize, n: usize| -> Result<Vec<Child<Ctx>>, u32> {
         let take = |i| slots.get_mut(u16_at(payload, from + 2 * i)).and_then(Option::take).ok_or(BAD_TREE);
@@ -128,13 +129,20 @@ fn read_node<Ctx: ScriptContext>(kind: usize, payload: &[u8], slots: &mut [Optio
                 Terminal::True
             }
         }
-        34..=41 => {
+        34..=35 => {
+            form(payload.len() == width)?;
+            let key = Key(number_at(payload, 0, width));
+            if kind == 34 {
+                Terminal::PkK(key)
+            } else {
+                Terminal::PkH(key)
+            }
+        }
+        36..=41 => {
             form(payload.len() == 4)?;
             let number = u32_at(payload, 0);
             form(!(36..=37).contains(&kind) || (1..=LOCK_MAX).contains(&number))?;
             match kind {
-                34 => Terminal::PkK(Key(number)),
-                35 => Terminal::PkH(Key(number)),
                 36 => Terminal::After(AbsLockTime(number)),
                 37 => Terminal::Older(RelLockTime(number)),
                 38 => Terminal::Sha256(number),
@@ -151,9 +159,9 @@ fn read_node<Ctx: ScriptContext>(kind: usize, payload: &[u8], slots: &mut [Optio
         56..=58 => {
             form(payload.len() >= 4)?;
             let (k, n) = (u16_at(payload, 0), u16_at(payload, 2));
-            form(payload.len() == 4 + n * if kind == 56 { 2 } else { 4 })?;
+            form(payload.len() == 4 + n * if kind == 56 { 2 } else { width })?;
             form(1 <= k && k <= n && n <= THRESH_MAX)?;
-            let keys = || (0..n).map(|i| Key(u32_at(payload, 4 + 4 * i))).collect();
+            let keys = || (0..n).map(|i| Key(number_at(payload, 4 + width * i, width))).collect();
             match kind {
                 56 => Terminal::Thresh(Threshold::new(k, children(4, n)?).map_err(|()| BAD_TREE)?),
                 57 => Terminal::Multi(Threshold::new(k, keys()).map_err(|()| BAD_TREE)?),
@@ -196,7 +204,7 @@ pub fn arity(kind: u16) -> usize {
     }
 }
 
-/// A tree before it is written: its kind, its numbers and its children.
+/// A tree before it is written: its written kind, its numbers and its children.
 #[derive(Clone)]
 struct Tree {
     kind: u16,
@@ -239,6 +247,27 @@ impl Tree {
     }
 }
 
+/// The number of a key: few, any of 32 bits, any of 64, and about 2^32 and 2^64.
+fn key_number(random: &mut Random) -> u64 {
+    match random.below(4) {
+        0 => random.below(12) as u64,
+        1 => random.below(1 << 32) as u64,
+        2 => random.next(),
+        _ => *random.pick(&[(1 << 32) - 1, 1 << 32, (1 << 32) + 7, 1 << 63, u64::MAX - 1, u64::MAX]),
+    }
+}
+
+/// A leaf of keys, in either of its kinds if they fit.
+fn of_keys(random: &mut Random, kind: usize, mut front: Vec<u8>, keys: &[u64]) -> Tree {
+    let large = keys.iter().any(|&key| key > u64::from(u32::MAX));
+    let long = long_kind(kind).filter(|_| large || random.once_in(2));
+    match long {
+        Some(_) => front.extend(keys.iter().flat_map(|key| key.to_le_bytes())),
+        None => front.extend(keys.iter().flat_map(|&key| (key as u32).to_le_bytes())),
+    }
+    Tree::new(long.unwrap_or(kind) as u16, front, vec![])
+}
+
 fn leaf(random: &mut Random, context: u32) -> Tree {
     let kind = random.between(32, 43) as u16;
     let number = |n: usize| Tree::new(kind, (n as u32).to_le_bytes().to_vec(), vec![]);
@@ -248,14 +277,19 @@ fn leaf(random: &mut Random, context: u32) -> Tree {
             let any = 1 + random.below(LOCK_MAX as usize);
             number(*random.pick(&[1, LOCK_MAX as usize, 500_000_000, any]))
         }
-        34..=41 => number(random.below(1 << 32)),
+        34 | 35 => {
+            let key = key_number(random);
+            of_keys(random, usize::from(kind), vec![], &[key])
+        }
+        38..=41 => number(random.below(1 << 32)),
         _ => {
             let n = random.between(1, 16);
-            let mut numbers = u16s(&[random.between(1, n) as u16, n as u16]);
-            numbers.extend((0..n).flat_map(|i| (i as u32).to_le_bytes()));
+            let front = u16s(&[random.between(1, n) as u16, n as u16]);
+            let few = random.once_in(2);
+            let keys: Vec<u64> = (0..n as u64).map(|i| if few { i } else { key_number(random) }).collect();
             // Now and then the one that belongs to the other context.
             let other = u32::from(random.once_in(40));
-            Tree::new(57 + ((context + other) % 2) as u16, numbers, vec![])
+            of_keys(random, 57 + ((context + other) % 2) as usize, front, &keys)
         }
     }
 }
@@ -300,6 +334,7 @@ fn ill_typed(random: &mut Random, context: u32, records: usize) -> Tree {
         49..=54 if random.once_in(2) => part.kind = random.between(49, 54) as u16,
         49..=56 if random.once_in(2) => part.children.reverse(),
         57..=58 => part.kind = 115 - part.kind,
+        107..=108 => part.kind = 215 - part.kind,
         _ => *part = other,
     }
     // The counts of records above the part are made anew.
@@ -329,18 +364,19 @@ fn damaged(random: &mut Random, bytes: &[u8]) -> Vec<u8> {
     let number = random.below(places.len());
     let (at, kind) = places[number];
     let first_child = at + if kind == 56 { 8 } else { 4 };
+    let threshold = matches!(meant(kind), 56..=58);
     match random.below(12) {
         0 => out.truncate(random.below(bytes.len() + 1)),
         1 => out[at] = out[at].wrapping_add(*random.pick(&[1, 2, 4, 252, 254, 255])),
         2 => out[at + 1] = 1 + random.below(255) as u8,
-        3 => out[at + 2] = *random.pick(&[0, 1, 3, 12, 31, 59, 84, 255]),
+        3 => out[at + 2] = *random.pick(&[0, 1, 3, 12, 19, 31, 34, 35, 57, 58, 59, 83, 84, 85, 86, 106, 107, 108, 109, 255]),
         4 => out[at + 3] = 1 + random.below(255) as u8,
         5 if (36..=37).contains(&kind) => {
             let lock: u32 = *random.pick(&[0, LOCK_MAX + 1, u32::MAX]);
             out[at + 4..at + 8].copy_from_slice(&lock.to_le_bytes());
         }
-        6 if kind >= 56 => out[at + 4] = *random.pick(&[0, out[at + 6].wrapping_add(1), 17, 255]),
-        7 if kind >= 56 => out[at + 6] = *random.pick(&[0, 17, out[at + 6].wrapping_add(1), out[at + 6] - 1]),
+        6 if threshold => out[at + 4] = *random.pick(&[0, out[at + 6].wrapping_add(1), 17, 255]),
+        7 if threshold => out[at + 6] = *random.pick(&[0, 17, out[at + 6].wrapping_add(1), out[at + 6] - 1]),
         8 if (42..=56).contains(&kind) => {
             // A child taken twice, or one that is not smaller.
             let children = if kind == 56 { usize::from(out[at + 6]) } else { arity(kind as u16) };
@@ -388,16 +424,26 @@ fn long(records: usize) -> Vec<u8> {
     out.bytes
 }
 
-/// The keys and hashes of a well-formed tree: where each stands in the bytes, and in which of the tables of docs/ENTRIES.md its entry does.
-fn entries(bytes: &[u8]) -> Vec<(usize, usize)> {
+/// A key or a hash of a well-formed tree: where it stands in the bytes, its width, and in which of the tables of docs/ENTRIES.md its entry stands.
+struct Entry {
+    place: usize,
+    width: usize,
+    table: usize,
+}
+
+fn entries(bytes: &[u8]) -> Vec<Entry> {
     let mut list = Vec::new();
     for (at, kind) in places(bytes) {
-        match kind {
-            34 => list.push((at + 4, 0)),
-            35 => list.push((at + 4, 1)),
-            38 | 39 => list.push((at + 4, 2)),
-            40 | 41 => list.push((at + 4, 3)),
-            57 | 58 => list.extend((at + 8..at + u16_at(bytes, at)).step_by(4).map(|place| (place, 0))),
+        let width = width(kind);
+        let mut add = |from: usize, table: usize| {
+            list.extend((from..at + u16_at(bytes, at)).step_by(width).map(|place| Entry { place, width, table }));
+        };
+        match meant(kind) {
+            34 => add(at + 4, 0),
+            35 => add(at + 4, 1),
+            38 | 39 => add(at + 4, 2),
+            40 | 41 => add(at + 4, 3),
+            57 | 58 => add(at + 8, 0),
             _ => {}
         }
     }
@@ -406,20 +452,30 @@ fn entries(bytes: &[u8]) -> Vec<(usize, usize)> {
 
 /// The keys and hashes of a well-formed tree: the table, and the number in it.
 #[cfg(port)]
-pub fn numbers(bytes: &[u8]) -> Vec<(usize, u32)> {
-    entries(bytes).into_iter().map(|(place, table)| (table, u32_at(bytes, place))).collect()
+pub fn numbers(bytes: &[u8]) -> Vec<(usize, u64)> {
+    entries(bytes).into_iter().map(|entry| (entry.table, number_at(bytes, entry.place, entry.width))).collect()
 }
 
-/// Numbers whose entry, of 32, 20 or 33 bytes, begins or ends about 2^32 bytes into its table, and the last.
-const FAR: [u32; 6] = [(1 << 27) - 1, 1 << 27, 214_748_364, 130_150_524, u32::MAX - 1, u32::MAX];
+/// Numbers whose entry, of 32, 20 or 33 bytes, begins or ends about 2^32 bytes into its table, and the last of 32 bits.
+const FAR: [u64; 6] = [(1 << 27) - 1, 1 << 27, 214_748_364, 130_150_524, (1 << 32) - 2, (1 << 32) - 1];
 
-/// A copy of a well-formed tree in which keys and hashes have numbers below `bound`, but for one number in `large`, which is any.
+/// 33 times this number is one more than a multiple of 2^64.
+const PART_33: u64 = 0x0F83_E0F8_3E0F_83E1;
+
+/// Numbers of 64 bits: with a small low half; with an entry, of 32, 20 or 33 bytes, that begins or ends few bytes after a multiple of 2^64; the last.
+pub const FURTHER: [u64; 13] = [
+    1 << 32, (1 << 32) + 1, (1 << 59) - 1, 1 << 59, (1 << 59) + 1, (1 << 62) - 1, 1 << 62, (1 << 62) + 1, PART_33 - 1, PART_33, 5 * PART_33 - 1,
+    u64::MAX - 1, u64::MAX,
+];
+
+/// A copy of a well-formed tree with keys in both kinds, in which keys and hashes have numbers below `bound`, but for one number in `large`, which is any.
 pub fn renumbered(random: &mut Random, bytes: &[u8], bound: usize, large: usize) -> Vec<u8> {
-    let mut out = bytes.to_vec();
-    for (place, _) in entries(bytes) {
-        let any = if random.once_in(2) { random.next() as u32 } else { *random.pick(&FAR) };
-        let number = if random.once_in(large) { any } else { random.below(bound) as u32 };
-        out[place..place + 4].copy_from_slice(&number.to_le_bytes());
+    let mut out = mixed(random, bytes);
+    for Entry { place, width, .. } in entries(&out) {
+        let far = if width == 8 && random.once_in(2) { *random.pick(&FURTHER) } else { *random.pick(&FAR) };
+        let any = if random.once_in(2) { random.next() } else { far };
+        let number = if random.once_in(large) { any } else { random.below(bound) as u64 };
+        out[place..place + width].copy_from_slice(&number.to_le_bytes()[..width]);
     }
     out
 }
@@ -427,7 +483,7 @@ pub fn renumbered(random: &mut Random, bytes: &[u8], bound: usize, large: usize)
 /// Leaves of every kind that a context has, with few numbers; and locks and multisignatures with every size of a number.
 pub fn leaves<Ctx: ScriptContext>() -> [Vec<Child<Ctx>>; 2] {
     let multi = |k: usize, n: usize| {
-        let keys: Vec<Key> = (0..n as u32).map(Key).collect();
+        let keys: Vec<Key> = (0..n as u64).map(Key).collect();
         let nodes = [Threshold::new(k, keys.clone()).map(Terminal::Multi), Threshold::new(k, keys).map(Terminal::MultiA)];
         nodes.into_iter().flatten().collect::<Vec<_>>()
     };

@@ -1,4 +1,4 @@
-//! Keys, hashes and locks: document 01's keys and hashes are u32 numbers, and a key is neither uncompressed nor x-only.
+//! Keys, hashes and locks: a key is a u64 number since document 02's R-3, neither uncompressed nor x-only; document 01's hashes are u32 numbers.
 
 use std::{fmt, hash};
 
@@ -34,7 +34,7 @@ pub trait ForEachKey<Pk: MiniscriptKey> {
 
 /// The oracle's key: its number.
 #[derive(Clone, Copy, PartialEq, Eq, PartialOrd, Ord, Hash, Debug)]
-pub struct Key(pub u32);
+pub struct Key(pub u64);
 
 impl fmt::Display for Key {
     fn fmt(&self, f: &mut fmt::Formatter) -> fmt::Result {

@@ -254,6 +254,7 @@ fn each_refusal(desk: &mut Desk, random: &mut Random) {
     let wraps = (0..HEIGHT as u16 - 1).map(|child| (48, u16s(&[child + 1])));
     let tall = tree(&[key, (44, u16s(&[0]))].into_iter().chain(wraps).collect::<Vec<_>>());
     let eight_keys = random_tables(random, 0, [8, 0, 0, 0]);
+    let far = |number: u64| tree(&[(84, number.to_le_bytes().to_vec()), (44, u16s(&[0]))]);
     let entry = known::example().entries[0].clone();
     let log = |context: u32, tree: &[u8], tables: &Tables| {
         Log { context, tree: tree.to_vec(), tables: tables.clone(), entries: vec![entry.clone()] }.bytes()
@@ -263,6 +264,7 @@ fn each_refusal(desk: &mut Desk, random: &mut Random) {
     let without = Log { context: 0, tree: checked.clone(), tables: eight_keys.clone(), entries: vec![] }.bytes();
     let list = [
         (0, log(0, &checked, &eight_keys), REPORT, WORK),
+        (0, log(0, &far(7), &eight_keys), REPORT, WORK),
         (0, without, 0, WORK),
         (BROKEN, vec![], 0, 0),
         (BROKEN, cut(log(2, &ill_typed, &none)), 0, 0),
@@ -275,6 +277,8 @@ fn each_refusal(desk: &mut Desk, random: &mut Random) {
         (19, log(0, &tall, &none), 0, WORK),
         (NO_ENTRY, log(0, &checked, &none), 0, WORK),
         (NO_ENTRY, log(1, &checked, &random_tables(random, 1, [7, 9, 9, 9])), 0, WORK),
+        (NO_ENTRY, log(0, &far((1 << 32) + 7), &eight_keys), REPORT, WORK),
+        (NO_ENTRY, log(0, &far(u64::MAX), &eight_keys), REPORT, WORK),
         (OUTPUT_TOO_SMALL, log(0, &checked, &eight_keys), REPORT - 1, WORK),
     ];
     for (number, bytes, room, words) in list {

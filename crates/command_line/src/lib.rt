@@ -3,7 +3,7 @@
 //
 // The contracts cite specs/Words.antt. No contract can say which words are given, nor what is written to a descriptor.
 ghost use mathlib.Core.Path.{_≡_};
-ghost use Rattle.command_line.specs.Words.{Names, lastWord, mostWords, countFor, askedOf};
+ghost use Rattle.command_line.specs.Words.{Names, NamesLater, contextPlace, lastWord, mostWords, countFor, askedOf};
 use libc::STDERR_FILENO;
 use numerals::Number32;
 
@@ -12,36 +12,62 @@ pub const INPUT_WORD: usize = 3;
 
 pub const OUTPUT_WORD: usize = 4;
 
-// The places of the tables of a script among the words, and of its OUTPUT.
-pub const KEYS_WORD: usize = 4;
+// The places of a script's KEYS, KEYHASHES, HASHES32, HASHES20 and OUTPUT after that of its TREE, which stands one word later after `--words`.
+pub const KEYS_AFTER: usize = 1;
 
-pub const KEY_HASHES_WORD: usize = 5;
+pub const KEY_HASHES_AFTER: usize = 2;
 
-pub const HASHES32_WORD: usize = 6;
+pub const HASHES32_AFTER: usize = 3;
 
-pub const HASHES20_WORD: usize = 7;
+pub const HASHES20_AFTER: usize = 4;
 
-pub const SCRIPT_WORD: usize = 8;
+pub const SCRIPT_AFTER: usize = 5;
+
+pub const WORDS_INPUT_WORD: usize = 4;
 
 // The place of RIGHT among the words; LEFT stands where TREE does.
 pub const RIGHT_WORD: usize = 4;
 
-// What the program is asked to do: to compile, to check, to write a script or to tell two trees apart in a context, or nothing, and the reason has
-// been said.
+// The places of INDEX and BYTE.
+pub const INDEX_WORD: usize = 4;
+
+const BYTE_WORD: usize = 5;
+
+// The place of the TREE that is to stand for a POLICY.
+pub const PROPOSED_WORD: usize = 4;
+
+// The places of POLICY and OUTPUT of a mover, which takes no context.
+pub const MOVED_WORD: usize = 2;
+
+pub const MOVED_OUTPUT_WORD: usize = 3;
+
+// What the program is asked to do: a command in a context, a mover's, or nothing, and the reason has been said.
 pub enum Asked {
     Compile(u32),
     Check(u32),
     Script(u32),
+    Words(u32),
     Differ(u32),
+    Index(u32),
+    At(u32),
+    Accept(u32),
+    New,
+    Old,
     Nothing,
 }
 
-// The command that a word names.
+// The command that the words name; `Words` is a script shown word by word.
 pub enum Command {
     Compile,
     Check,
     Script,
+    Words,
     Differ,
+    Index,
+    At,
+    Accept,
+    New,
+    Old,
     Unknown,
 }
 
@@ -52,7 +78,7 @@ pub enum Count {
     Right,
 }
 
-// Says what the words are that name a context and files.
+// Says what the words are that name a context, files and a byte.
 fn say_files() {
     io::write_all(
         STDERR_FILENO,
@@ -62,6 +88,28 @@ fn say_files() {
         STDERR_FILENO,
         b"KEYS, KEYHASHES, HASHES32 and HASHES20 are files of keys and hashes, one after another. OUTPUT is a new file.\n",
     );
+    io::write_all(
+        STDERR_FILENO,
+        b"INDEX is a file that console index wrote. BYTE is the number of a script's byte, 0 for the first.\n",
+    );
+}
+
+// Says which words are right, from those of `index` on.
+fn say_later_commands() {
+    io::write_all(
+        STDERR_FILENO,
+        b"       console index CONTEXT TREE [OUTPUT]\n",
+    );
+    io::write_all(
+        STDERR_FILENO,
+        b"       console at CONTEXT TREE INDEX BYTE\n",
+    );
+    io::write_all(
+        STDERR_FILENO,
+        b"       console accept CONTEXT POLICY TREE\n",
+    );
+    io::write_all(STDERR_FILENO, b"       console new POLICY OUTPUT\n");
+    io::write_all(STDERR_FILENO, b"       console old POLICY OUTPUT\n");
 }
 
 // Says what is wrong with the words, and which are right.
@@ -75,10 +123,30 @@ fn usage(wrong: &[u8]) {
     io::write_all(STDERR_FILENO, b"       console check CONTEXT TREE\n");
     io::write_all(
         STDERR_FILENO,
-        b"       console script CONTEXT TREE KEYS KEYHASHES HASHES32 HASHES20 [OUTPUT]\n",
+        b"       console script [--words] CONTEXT TREE KEYS KEYHASHES HASHES32 HASHES20 [OUTPUT]\n",
     );
     io::write_all(STDERR_FILENO, b"       console differ CONTEXT LEFT RIGHT\n");
+    say_later_commands();
     say_files();
+}
+
+// The command that a word names, of the last four.
+fn later_command(word: &[u8]) -> Command
+    ensures { λ r. ⌜ NamesLater (now (word .entry)) r ⌝ }
+{
+    if check::same(word, b"at") {
+        return Command::At;
+    }
+    if check::same(word, b"accept") {
+        return Command::Accept;
+    }
+    if check::same(word, b"new") {
+        return Command::New;
+    }
+    if check::same(word, b"old") {
+        return Command::Old;
+    }
+    Command::Unknown
 }
 
 // The command that a word names.
@@ -97,7 +165,29 @@ fn command_of(word: &[u8]) -> Command
     if check::same(word, b"differ") {
         return Command::Differ;
     }
-    Command::Unknown
+    if check::same(word, b"index") {
+        return Command::Index;
+    }
+    later_command(word)
+}
+
+// The place of a command's CONTEXT, 0 where it takes none.
+fn context_place(command: Command) -> usize
+    ensures { λ r. ⌜ r ≡ contextPlace command ⌝ }
+{
+    match command {
+        Command::Compile => 2,
+        Command::Check => 2,
+        Command::Script => 2,
+        Command::Words => 3,
+        Command::Differ => 2,
+        Command::Index => 2,
+        Command::At => 2,
+        Command::Accept => 2,
+        Command::New => 0,
+        Command::Old => 0,
+        Command::Unknown => 0,
+    }
 }
 
 // The place of the last word that a command needs.
@@ -107,8 +197,14 @@ fn last_word(command: Command) -> usize
     match command {
         Command::Compile => INPUT_WORD,
         Command::Check => INPUT_WORD,
-        Command::Script => HASHES20_WORD,
+        Command::Script => INPUT_WORD + HASHES20_AFTER,
+        Command::Words => WORDS_INPUT_WORD + HASHES20_AFTER,
         Command::Differ => RIGHT_WORD,
+        Command::Index => INPUT_WORD,
+        Command::At => BYTE_WORD,
+        Command::Accept => PROPOSED_WORD,
+        Command::New => MOVED_OUTPUT_WORD,
+        Command::Old => MOVED_OUTPUT_WORD,
         Command::Unknown => 0,
     }
 }
@@ -120,8 +216,14 @@ fn most_words(command: Command) -> usize
     match command {
         Command::Compile => OUTPUT_WORD + 1,
         Command::Check => INPUT_WORD + 1,
-        Command::Script => SCRIPT_WORD + 1,
+        Command::Script => INPUT_WORD + SCRIPT_AFTER + 1,
+        Command::Words => WORDS_INPUT_WORD + SCRIPT_AFTER + 1,
         Command::Differ => RIGHT_WORD + 1,
+        Command::Index => OUTPUT_WORD + 1,
+        Command::At => BYTE_WORD + 1,
+        Command::Accept => PROPOSED_WORD + 1,
+        Command::New => MOVED_OUTPUT_WORD + 1,
+        Command::Old => MOVED_OUTPUT_WORD + 1,
         Command::Unknown => 0,
     }
 }
@@ -139,7 +241,7 @@ fn count_for(command: Command, words: usize) -> Count
     Count::Right
 }
 
-// What a command asks in a context, if there is one.
+// What a command asks in a context, if there is one; a mover asks the same in any.
 fn asked_in(command: Command, context: Number32) -> Asked
     ensures { λ r. ⌜ r ≡ askedOf command context ⌝ }
 {
@@ -148,17 +250,40 @@ fn asked_in(command: Command, context: Number32) -> Asked
             Command::Compile => Asked::Compile(n),
             Command::Check => Asked::Check(n),
             Command::Script => Asked::Script(n),
+            Command::Words => Asked::Words(n),
             Command::Differ => Asked::Differ(n),
+            Command::Index => Asked::Index(n),
+            Command::At => Asked::At(n),
+            Command::Accept => Asked::Accept(n),
+            Command::New => Asked::New,
+            Command::Old => Asked::Old,
             Command::Unknown => Asked::Nothing,
         },
         Number32::Missing => Asked::Nothing,
     }
 }
 
+// Whether a script is to be shown word by word.
+fn words_wanted() -> bool {
+    let mut word = io::buffer();
+    let n = os::arg(2, &mut word);
+    check::same(&word[..n], b"--words")
+}
+
+// `Words` for a script that is to be shown word by word, else the command itself.
+fn by_words(command: Command) -> Command {
+    if let Command::Script = command {
+        if words_wanted() {
+            return Command::Words;
+        }
+    }
+    command
+}
+
 fn command_given() -> Command {
     let mut word = io::buffer();
     let n = os::arg(1, &mut word);
-    command_of(&word[..n])
+    by_words(command_of(&word[..n]))
 }
 
 // Whether there are as many words as a command takes; says so where not.
@@ -176,22 +301,41 @@ fn words_suit(command: Command) -> bool {
     }
 }
 
-fn context_word() -> Number32 {
+// The decimal number that word i writes.
+fn number_word(i: usize) -> Number32 {
     let mut word = io::buffer();
-    let n = os::arg(2, &mut word);
+    let n = os::arg(i, &mut word);
     numerals::decimal(&word[..n])
 }
 
-// The CONTEXT of a command; says so where the words are too few, too many, or have none.
+// The CONTEXT at a place of the words; says so where there is none.
+fn context_at(place: usize) -> Number32 {
+    let context = number_word(place);
+    if let Number32::Missing = context {
+        usage(b"CONTEXT is not a decimal number up to 4294967295");
+    }
+    context
+}
+
+// The CONTEXT of a command, 0 where it takes none; says so where the words are too few, too many, or have none.
 fn context_given(command: Command) -> Number32 {
     if words_suit(command) {
-        let context = context_word();
-        if let Number32::Missing = context {
-            usage(b"CONTEXT is not a decimal number up to 4294967295");
+        let place = context_place(command);
+        if place == 0 {
+            return Number32::Is(0);
         }
-        return context;
+        return context_at(place);
     }
     Number32::Missing
+}
+
+// The BYTE that is to be looked up; says so where there is none.
+pub fn byte_given() -> Number32 {
+    let byte = number_word(BYTE_WORD);
+    if let Number32::Missing = byte {
+        usage(b"BYTE is not a decimal number up to 4294967295");
+    }
+    byte
 }
 
 // What the words ask.

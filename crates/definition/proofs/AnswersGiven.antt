@@ -3,9 +3,10 @@ use mathlib.Core.Bool.{Bool, true, false, _&&_}
 use mathlib.Core.List.{List, [], _∷_, _++_}
 use mathlib.Core.Path.{_≡_, refl}
 use Rattle.words.specs.Bytes.{bytesOf, little, leAt}
-use Rattle.records.specs.Numbers.{u16s, u32s}
+use Rattle.records.specs.Numbers.{u16s, numbersAt}
 use Rattle.records.specs.Shapes.{shapeOf, lookUp}
-use Rattle.records.specs.Payloads.{payloadOf}
+use Rattle.records.specs.Payloads.{width, payloadOf}
+use Rattle.records.specs.RecordForm as form
 use Rattle.policies.specs.Policy as policies
 use Rattle.policies.specs.Policy.{depth, deepest, fromList}
 use Rattle.policies.specs.Forms.{made, kindOf, numberOf, kOf, leftWeightOf, rightWeightOf, childrenOf}
@@ -50,7 +51,7 @@ both-right (x ∷ xs) ys p q = and-intro (right x) (allRight (xs ++ ys)) (and-le
 
 right-few : allRight few ≡ true
 unfolding allRight few hexOnto sameBytes compile compilePolicy bestCompilation
-    little leAt bytesOf u16s u32s shapeOf lookUp payloadOf made fromList without readWhole readRecord rootOf finish readFrom readPolicy depth deepest
+    little leAt bytesOf u16s numbersAt shapeOf lookUp form.kindOf width payloadOf made fromList without readWhole readRecord rootOf finish readFrom readPolicy depth deepest
     searcher searchers searching remembering lookup then forEach castsOf wrapped cheapest
     same sameAll kindOf numberOf kOf leftWeightOf rightWeightOf childrenOf policies.toList
     insertClosure closure castAll insert any filter enter total1d cost1d inRow toList nodeOf nodesOf count counts owns written writtenAll
@@ -66,7 +67,7 @@ right-few = refl
 
 right-desk : allRight desk ≡ true
 unfolding allRight desk hexOnto sameBytes compile compilePolicy bestCompilation
-    little leAt bytesOf u16s u32s shapeOf lookUp payloadOf made fromList without readWhole readRecord rootOf finish readFrom readPolicy depth deepest
+    little leAt bytesOf u16s numbersAt shapeOf lookUp form.kindOf width payloadOf made fromList without readWhole readRecord rootOf finish readFrom readPolicy depth deepest
     searcher searchers searching remembering lookup then forEach castsOf wrapped cheapest
     same sameAll kindOf numberOf kOf leftWeightOf rightWeightOf childrenOf policies.toList
     insertClosure closure castAll insert any filter enter total1d cost1d inRow toList nodeOf nodesOf count counts owns written writtenAll
@@ -82,7 +83,7 @@ right-desk = refl
 
 right-third : allRight third ≡ true
 unfolding allRight third hexOnto sameBytes compile compilePolicy bestCompilation
-    little leAt bytesOf u16s u32s shapeOf lookUp payloadOf made fromList without readWhole readRecord rootOf finish readFrom readPolicy depth deepest
+    little leAt bytesOf u16s numbersAt shapeOf lookUp form.kindOf width payloadOf made fromList without readWhole readRecord rootOf finish readFrom readPolicy depth deepest
     searcher searchers searching remembering lookup then forEach castsOf wrapped cheapest
     same sameAll kindOf numberOf kOf leftWeightOf rightWeightOf childrenOf policies.toList
     insertClosure closure castAll insert any filter enter total1d cost1d inRow toList nodeOf nodesOf count counts owns written writtenAll

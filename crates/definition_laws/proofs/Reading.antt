@@ -20,9 +20,10 @@ use Rattle.policies.specs.Reading.{badPolicy, zeroWeight, policyTooLarge, maxRe
 use Rattle.policies.specs.Reading.{Slots, slot, ifThere, without, thePolicy, those, weighsNothing, Next, readWhole, readRecord, rootOf, finish}
 use Rattle.policies.specs.Reading.{readFrom, readPolicy}
 use Rattle.policies.proofs.Forms.{to-from}
-use Rattle.writing.specs.WellFormed.{AllBelow, IsU32, IsLock, IsThreshold}
+use Rattle.writing.specs.WellFormed.{AllBelow, IsU32, IsU64, IsLock, IsThreshold}
 use Rattle.writing.proofs.Kept.{no-some, below-take, below-drop}
-use Rattle.writing.proofs.WellRead.{u32-below}
+use Rattle.writing.proofs.WellRead.{number-below, key-below, short-below}
+use Rattle.records.proofs.Widths.{short-policy}
 use Rattle.definition_laws.specs.FormedPolicy.{FormedPolicy, AllFormed}
 use Rattle.definition_laws.specs.Laws.{All, nobody, _and_, IfSome, noneIs, someIs}
 use Rattle.definition_laws.proofs.Inserting.{all-append}
@@ -128,8 +129,12 @@ module _ (s : List ℕ) {p : Payload} (below : AllBelow 256 s) (e : policyPayloa
   shape-known : (kind : ℕ) {shape : Shape} → shapeOf kind ≡ some shape → kindOf s ≡ kind → payloadOf shape s ≡ some p
   shape-known kind known k = rw (k, known) at (policy-record s e .1)
 
-  number-fine : (kind : ℕ) → shapeOf kind ≡ some Shape.Number → kindOf s ≡ kind → IsU32 (numberOf p)
-  number-fine kind known k = rw (is-number s (shape-known kind known k)) (u32-below s 4 below)
+  key-fine : shapeOf 3 ≡ some Shape.Number → kindOf s ≡ 3 → IsU64 (numberOf p)
+  key-fine known k = rw (is-number s (shape-known 3 known k)) (key-below s below)
+
+  hash-fine : (kind : ℕ) → 6 ≤ kind → kind ≤ 9 → shapeOf kind ≡ some Shape.Number → kindOf s ≡ kind → IsU32 (numberOf p)
+  hash-fine kind low high known k =
+      rw (is-number s (shape-known kind known k)) (short-below s below (short-policy s (omega (arith, k)) (omega (arith, k))))
 
   lock-fine : (kind : ℕ) → shapeOf kind ≡ some Shape.Lock → kindOf s ≡ kind → IsLock (numberOf p)
   lock-fine kind known k =
@@ -138,7 +143,7 @@ module _ (s : List ℕ) {p : Payload} (below : AllBelow 256 s) (e : policyPayloa
       rw this (lock-bounds s (shaped ∙ ap some this))
 
   weights-fine : shapeOf orKind ≡ some Shape.Weighted → kindOf s ≡ orKind → IsU32 (leftWeightOf p) × IsU32 (rightWeightOf p)
-  weights-fine known k = rw (is-weighted s (shape-known orKind known k)) (u32-below s 8 below, u32-below s 12 below)
+  weights-fine known k = rw (is-weighted s (shape-known orKind known k)) (number-below 4 s 8 below, number-below 4 s 12 below)
 
   threshold-fine : shapeOf threshKind ≡ some Shape.Threshold → kindOf s ≡ threshKind → IsThreshold (kOf p) (length (childrenOf p))
   threshold-fine known k =
@@ -151,13 +156,13 @@ module _ (s : List ℕ) {p : Payload} (below : AllBelow 256 s) (e : policyPayloa
   unfolding made FormedPolicy shapeOf lookUp
   made-formed cs hs l =
       by-kind (kindOf s) 2 _ _ (λ k. tt)
-      (by-kind (kindOf s) 3 _ _ (number-fine 3 refl)
+      (by-kind (kindOf s) 3 _ _ (key-fine refl)
       (by-kind (kindOf s) 4 _ _ (lock-fine 4 refl)
       (by-kind (kindOf s) 5 _ _ (lock-fine 5 refl)
-      (by-kind (kindOf s) 6 _ _ (number-fine 6 refl)
-      (by-kind (kindOf s) 7 _ _ (number-fine 7 refl)
-      (by-kind (kindOf s) 8 _ _ (number-fine 8 refl)
-      (by-kind (kindOf s) 9 _ _ (number-fine 9 refl)
+      (by-kind (kindOf s) 6 _ _ (hash-fine 6 (omega arith) (omega arith) refl)
+      (by-kind (kindOf s) 7 _ _ (hash-fine 7 (omega arith) (omega arith) refl)
+      (by-kind (kindOf s) 8 _ _ (hash-fine 8 (omega arith) (omega arith) refl)
+      (by-kind (kindOf s) 9 _ _ (hash-fine 9 (omega arith) (omega arith) refl)
       (by-kind (kindOf s) andKind _ _ (λ k. (nth-formed 0 hs, nth-formed 1 hs))
       (by-kind (kindOf s) orKind _ _ (λ k. (nth-formed 0 hs, nth-formed 1 hs, weights-fine refl k))
       (by-kind (kindOf s) threshKind _ _ (λ k. (subst (IsThreshold (kOf p)) as-many (threshold-fine refl k), all-formed hs))

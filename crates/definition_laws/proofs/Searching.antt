@@ -312,7 +312,7 @@ arranged-length m (b ∷ bs) = ap suc (others-length b m 1 bs)
 
 -- so many keys, each of which can be written
 pub record KeysWell (n : ℕ) (keys : List ℕ) : Type 0 where
-  pub below : AllBelow (2 ^ 32) keys
+  pub below : AllBelow (2 ^ 64) keys
   pub as-many : length keys ≡ n
 
 key-or : {n : ℕ} {keys : Option (List ℕ)} (q : Policy) → FormedPolicy q → IfSome (KeysWell n) keys → IfSome (KeysWell (suc n)) (keyOr q keys)

@@ -35,7 +35,7 @@ use Rattle.costs.specs.Rules as cost
 use Rattle.trees.specs.Fragment.{Fragment, Thresh, toList}
 use Rattle.trees.specs.Typing.{typeOf, typesOf, allTyped, andAll}
 use Rattle.trees.specs.Typing as typing
-use Rattle.writing.specs.WellFormed.{AllBelow, IsU32, IsLock, IsThreshold, WellFormed, AllWellFormed}
+use Rattle.writing.specs.WellFormed.{AllBelow, IsU32, IsU64, IsLock, IsThreshold, WellFormed, AllWellFormed}
 use Rattle.definition.specs.Candidates.{Candidate, Made, typedAs, madeAs, ifValid}
 use Rattle.definition.specs.Candidates.{Cast, castCheck, castDupif, castLikely, castUnlikely, castVerify, castNonzero, castTrue}
 use Rattle.definition.specs.Candidates.{castSwap, castAlt, castZeronotequal, allCasts}
@@ -54,11 +54,11 @@ pub true-good : (c : Context) → Good c true′
 unfolding typeOf figuresOf WellFormed
 true-good c = record { typed = refl; figured = refl; formed = tt }
 
-pub pkK-good : (c : Context) (n : ℕ) → IsU32 n → Good c (pkK c n)
+pub pkK-good : (c : Context) (n : ℕ) → IsU64 n → Good c (pkK c n)
 unfolding typeOf figuresOf WellFormed
 pkK-good c n w = record { typed = refl; figured = refl; formed = w }
 
-pub pkH-good : (c : Context) (n : ℕ) → IsU32 n → Good c (pkH c n)
+pub pkH-good : (c : Context) (n : ℕ) → IsU64 n → Good c (pkH c n)
 unfolding typeOf figuresOf WellFormed
 pkH-good c n w = record { typed = refl; figured = refl; formed = w }
 
@@ -71,7 +71,7 @@ unfolding typeOf figuresOf WellFormed
 hash-good c kind h w = record { typed = refl; figured = refl; formed = w }
 
 -- each context has the form of its own
-pub multi-good : (c : Context) (k : ℕ) (keys : List ℕ) → IsThreshold k (length keys) → AllBelow (2 ^ 32) keys → Good c (multi c k keys)
+pub multi-good : (c : Context) (k : ℕ) (keys : List ℕ) → IsThreshold k (length keys) → AllBelow (2 ^ 64) keys → Good c (multi c k keys)
 unfolding typeOf figuresOf WellFormed
 multi-good Segwitv0 k keys w b = record { typed = refl; figured = refl; formed = (w, b) }
 multi-good Tap k keys w b = record { typed = refl; figured = refl; formed = (w, b) }

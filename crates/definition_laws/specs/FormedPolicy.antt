@@ -2,13 +2,13 @@
 -- 1 ≤ k ≤ n ≤ 16 for the n children of a Thresh; weights are u32, and that none is 0 is not asked here.
 use lib.ListN.{length}
 use Rattle.policies.specs.Policy.{Policy, Policies, end, _▹_, toList, Unsatisfiable, Trivial, Key, Lock, Hash, And, Or, Thresh}
-use Rattle.writing.specs.WellFormed.{IsU32, IsLock, IsThreshold}
+use Rattle.writing.specs.WellFormed.{IsU32, IsU64, IsLock, IsThreshold}
 
 unfoldable mutual
   pub FormedPolicy : Policy → Type 0
   FormedPolicy Unsatisfiable = Unit
   FormedPolicy Trivial = Unit
-  FormedPolicy (Key n) = IsU32 n
+  FormedPolicy (Key n) = IsU64 n
   FormedPolicy (Lock kind n) = IsLock n
   FormedPolicy (Hash kind h) = IsU32 h
   FormedPolicy (And l r) = FormedPolicy l × FormedPolicy r

@@ -260,13 +260,23 @@ module _ (x y : List ℕ) {kind other : ℕ} {p q : Parts} (kind-is : kind ≡ k
           pub no-keys : kind < 57 → true ≡ sameRecord x y
           no-keys h =
               let yes-is : told (sameKeys (firstKeys x (countIn x)) (firstKeys y (countIn x))) ≡ true =
-              rw (eq-eqb kind other same-kind, eq-eqb (p .number) (q .number) same-number, eq-eqb (p .k) (q .k) same-k,
-              eq-eqb (p .count) (q .count) same-count, lt-ltb kind 57 h) in
+              rw (
+                eq-eqb kind other same-kind,
+                eq-eqb (p .number) (q .number) same-number,
+                eq-eqb (p .k) (q .k) same-k,
+                eq-eqb (p .count) (q .count) same-count,
+                lt-ltb kind 57 h,
+              ) in
               sym yes-is ∙ told-is refl
 
           pub by-keys : 57 ≤ kind → {n : ℕ} {keys : Bool} → n ≡ countIn x → keys ≡ sameKeys (firstKeys x n) (firstKeys y n) → keys ≡ sameRecord x y
           by-keys h {n} {keys} m e =
               let is-keys : told keys ≡ keys =
-              rw (eq-eqb kind other same-kind, eq-eqb (p .number) (q .number) same-number, eq-eqb (p .k) (q .k) same-k,
-              eq-eqb (p .count) (q .count) same-count, le-ltb kind 57 h) in
+              rw (
+                eq-eqb kind other same-kind,
+                eq-eqb (p .number) (q .number) same-number,
+                eq-eqb (p .k) (q .k) same-k,
+                eq-eqb (p .count) (q .count) same-count,
+                le-ltb kind 57 h,
+              ) in
               sym is-keys ∙ told-is (e ∙ ap (λ (n : ℕ). sameKeys (firstKeys x n) (firstKeys y n)) m)

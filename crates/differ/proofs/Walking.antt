@@ -184,7 +184,7 @@ module _ {left right starts others : List ℕ} {i j at : ℕ} (walks : Walks lef
             let a = getD (x .children) c 0 in
             let b = getD (y .children) c 0 in
             let split : restFrom left right (take (x .n) (x .children)) (take (x .n) (y .children)) c
-                ≡ differences (numberedAt left a) (numberedAt right b) ++ restFrom left right (take (x .n) (x .children)) (take (x .n) (y .children)) (c + 1) =
+            ≡ differences (numberedAt left a) (numberedAt right b) ++ restFrom left right (take (x .n) (x .children)) (take (x .n) (y .children)) (c + 1) =
             rest-next left right (take (x .n) (x .children)) (take (x .n) (y .children)) c (omega (arith, long-left)) (omega (arith, long-right))
             ∙ ap (λ (a : ℕ). differences (numberedAt left a) (numberedAt right (getD (take (x .n) (y .children)) c 0))
             ++ restFrom left right (take (x .n) (x .children)) (take (x .n) (y .children)) (c + 1)) child-left

@@ -168,7 +168,16 @@ fn differ_roots(
     ensures { λ r. ⌜ Gives (fitting (length (now (out .entry)))
         (differences (numberedAt (now (left .entry)) i) (numberedAt (now (right .entry)) j))) (now (out .entry)) (now (out .exit)) r ⌝ }
 {
-    let count = differ_at(left, right, left_starts, right_starts, i, j, &mut out[0..0], 0);
+    let count = differ_at(
+        left,
+        right,
+        left_starts,
+        right_starts,
+        i,
+        j,
+        &mut out[0..0],
+        0,
+    );
     if 8 * count <= out.len() {
         differ_at(left, right, left_starts, right_starts, i, j, out, 0);
         return Given {
@@ -191,7 +200,15 @@ fn differ_in(left: &[u8], right: &[u8], out: &mut [u8], work: &mut [u64]) -> Giv
 {
     let n = walk::scan(left, &mut work[0..HALF]);
     let m = walk::scan(right, &mut work[HALF..WORK_WORDS]);
-    differ_roots(left, right, &work[0..HALF], &work[HALF..WORK_WORDS], n - 1, m - 1, out)
+    differ_roots(
+        left,
+        right,
+        &work[0..HALF],
+        &work[HALF..WORK_WORDS],
+        n - 1,
+        m - 1,
+        out,
+    )
 }
 
 // The check of two trees, one after the other: the number of the first that is refused, 0 where both pass.

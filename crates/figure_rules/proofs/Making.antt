@@ -47,7 +47,7 @@ blank-entered h = record { within = omega arith; cost = omega arith; low = omega
 
 -- ---- each rule
 
-module _ {h kind k n : ℕ} {xs : List ExtData} (r : Ready h kind k n xs) (long : length xs ≡ 16) (c : Context) (number : ℕ) where
+module _ {h kind number k n : ℕ} {xs : List ExtData} (r : Ready h kind number k n xs) (long : length xs ≡ 16) (c : Context) where
   abbrev Makes : ExtData → Type 0
   Makes x = Candidate (h + 1) x
 

@@ -47,7 +47,7 @@ module _ (c : Context) (kind number k n : ℕ) (xs : List ExtData) where
   of-leaf (inl h) p q = below h
   of-leaf (inr h) p q = above h p q
 
-module _ {h kind k n : ℕ} {xs : List ExtData} (r : Ready h kind k n xs) where
+module _ {h kind number k n : ℕ} {xs : List ExtData} (r : Ready h kind number k n xs) where
   pub small : (j : ℕ) → j < length xs → Small (child xs j)
   small j l = entered-small (r .entered j l) (omega (arith, r .low))
 

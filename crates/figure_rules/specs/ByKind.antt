@@ -60,8 +60,9 @@ figuresBy c kind number k n xs =
     (cond (eqb kind 55) (ext.andOr (child xs 0) (child xs 1) (child xs 2))
     (cond (eqb kind 56) (threshold k (take n xs)) (leafOf c kind number k n))))
 
--- what the rules ask: children whose figures have entered, at most so high, and of a threshold 1 ≤ k ≤ n ≤ 16
-pub record Ready (h kind k n : ℕ) (xs : List ExtData) : Type 0 where
+-- what the rules ask: children whose figures have entered, at most so high, of a lock a u32, and of a threshold 1 ≤ k ≤ n ≤ 16
+pub record Ready (h kind number k n : ℕ) (xs : List ExtData) : Type 0 where
   pub low : h ≤ 4096
   pub entered : (j : ℕ) → j < length xs → Entered h (child xs j)
+  pub lock : 36 ≤ kind → kind ≤ 37 → number < 4294967296
   pub bounds : 56 ≤ kind → (1 ≤ k) × (k ≤ n) × (n ≤ 16)

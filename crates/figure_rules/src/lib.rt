@@ -2,19 +2,20 @@
 //
 // Contracts cite specs/ByKind.antt. Nothing here reads memory: figures come and go by value.
 ghost use mathlib.Core.Path.{_≡_};
-ghost use Prim.Native.Nat.{ℕ, _≤_};
+ghost use Prim.Native.Nat.{ℕ, _≤_, _<_};
 ghost use Rattle.figures.specs.Bounds.{Small};
 ghost use Rattle.figure_rules.specs.ByKind.{lockOrHash, leafOf, castOf, pairOf, figuresBy, Ready};
 use contexts::Context;
 use figures::ExtData;
 
 // A lock or a hash.
-fn lock_or_hash(kind: u16, number: u32) -> ExtData
+fn lock_or_hash(kind: u16, number: u64) -> ExtData
+    requires { ⌜ (36 ≤ kind → kind ≤ 37 → number < 4294967296) ⌝ }
     ensures { λ r. ⌜ r ≡ lockOrHash kind number ⌝ }
 {
     match kind {
-        36 => ExtData::after(number),
-        37 => ExtData::older(number),
+        36 => ExtData::after(number as u32),
+        37 => ExtData::older(number as u32),
         38 => ExtData::sha256(),
         39 => ExtData::hash256(),
         40 => ExtData::ripemd160(),
@@ -23,8 +24,8 @@ fn lock_or_hash(kind: u16, number: u32) -> ExtData
 }
 
 // A leaf of this kind.
-fn leaf(context: Context, kind: u16, number: u32, k: u16, n: u16) -> ExtData
-    requires { ⌜ (56 ≤ kind → (1 ≤ k) × (k ≤ n) × (n ≤ 16)) ⌝ }
+fn leaf(context: Context, kind: u16, number: u64, k: u16, n: u16) -> ExtData
+    requires { ⌜ (36 ≤ kind → kind ≤ 37 → number < 4294967296) × (56 ≤ kind → (1 ≤ k) × (k ≤ n) × (n ≤ 16)) ⌝ }
     ensures { λ r. ⌜ r ≡ leafOf context kind number k n ⌝ }
 {
     match kind {
@@ -73,12 +74,12 @@ fn pair(kind: u16, x: ExtData, y: ExtData) -> ExtData
 pub fn figures_of(
     context: Context,
     kind: u16,
-    number: u32,
+    number: u64,
     k: u16,
     n: u16,
     children: [ExtData; 16],
 ) -> ExtData
-    requires { ⌜ ((h : ℕ) × Ready h kind k n children) ⌝ }
+    requires { ⌜ ((h : ℕ) × Ready h kind number k n children) ⌝ }
     ensures { λ r. ⌜ r ≡ figuresBy context kind number k n children ⌝ }
 {
     match kind {

@@ -1,7 +1,6 @@
 -- The promises determine their outcomes. Assumes nothing.
-use Prim.Native.Nat.{ℕ, _+_, _*_, _≤_, _<_}
+use Prim.Native.Nat.{ℕ, _+_}
 use mathlib.Core.List.{List, _++_}
-use mathlib.Core.Option.{some}
 use mathlib.Core.Path.{_≡_, refl, sym, ap, subst, _∙_}
 use native.Mathlib.Omega.{arith}
 use lib.ListN.{length, drop}
@@ -10,14 +9,15 @@ use Rattle.types.specs.TypeOrder.{pack}
 use Rattle.contexts.specs.declared.Context.{Context}
 use Rattle.trees.specs.Fragment.{Fragment}
 use Rattle.trees.specs.Reading.{Answer}
-use Rattle.trees.specs.TreeCheck.{Typed, contextOf}
+use Rattle.trees.specs.TreeCheck.{Typed}
 use Rattle.walk.specs.TreeRecords.{TreeRecords}
 use Rattle.walk.proofs.Laws.{same-count}
 use Rattle.index_places.proofs.Stands.{stands-once, beneath-small}
 use Rattle.index_places.proofs.Theorem.{none-past}
-use Rattle.index_entry.specs.Index.{Entry, EntryOf, IsIndex, Indexed, refuses, fits, too-small, IndexDetermined}
+use Rattle.index_memory.specs.Entries.{Entry}
+use Rattle.index_entry.specs.Index.{EntryOf, IsIndex, Indexed, refuses, fits, too-small, IndexDetermined}
 use Rattle.index_entry.specs.Index.{Looked, inside, past, Found, turned-down, looks, another, FindDetermined}
-use Rattle.index_entry.proofs.IndexBytes.{entries-long, same-entries}
+use Rattle.index_memory.proofs.IndexBytes.{entries-long, same-entries}
 
 same-entry : (e e′ : Entry) → e .type ≡ e′ .type → e .height ≡ e′ .height → e .first ≡ e′ .first → e .size ≡ e′ .size → e ≡ e′
 same-entry e e′ a b c d =

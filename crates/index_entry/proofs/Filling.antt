@@ -1,32 +1,29 @@
 -- Work memory is filled with the sizes and types of records, children first. Assumes nothing.
-use Prim.Native.Nat.{ℕ, zero, suc, _+_, _-_, _*_, _≤_, _<_}
+use Prim.Native.Nat.{ℕ, suc, _+_, _-_, _*_, _≤_, _<_}
 use mathlib.Core.Bool.{Bool, true, false}
 use mathlib.Core.List.{List, [], _∷_, map}
-use mathlib.Core.Option.{Option, none, some}
+use mathlib.Core.Option.{Option}
 use mathlib.Core.Path.{_≡_, refl, sym, ap, subst, _∙_}
 use native.Mathlib.Omega.{arith}
-use borrow.Author.Tests.{eqb-true, eqb-false, eq-eqb, ne-eqb}
+use borrow.Author.Tests.{eqb-true, eqb-false}
 use lib.Dec.{eqb}
-use lib.ListN.{length, getD, set, take, length-set}
+use lib.ListN.{length, getD, set, length-set}
 use lib.Seq.{getD-set-other}
 use Rattle.records.specs.declared.Parts.{Parts}
-use Rattle.records.specs.Payloads.{Payload, kOf, childrenOf}
+use Rattle.records.specs.Payloads.{Payload, kOf}
 use Rattle.records.specs.RecordForm.{fragmentPayload}
 use Rattle.records.specs.Answers.{partsOf}
 use Rattle.types.specs.declared.«Type».{«Type»}
-use Rattle.types.specs.declared.TypeResult.the-variants.{Ok}
 use Rattle.types.specs.TypeOrder.{pack}
 use Rattle.contexts.specs.declared.Context.{Context}
-use Rattle.trees.specs.Fragment.{Fragment}
 use Rattle.trees.specs.Typing.{typeOf}
-use Rattle.trees.specs.Height.{maxHeight, heightOf}
+use Rattle.trees.specs.Height.{heightOf}
 use Rattle.trees.specs.Reading.{done}
 use Rattle.trees.specs.Rules.{answered, ruleOf, typesOf, tallest}
 use Rattle.trees.specs.declared.Subtree.{Subtree}
 use Rattle.walk.specs.TreeRecords.{recordAt, fragmentAt, TreeRecord, TreeRecords}
-use Rattle.walk.specs.Nodes.{nodeOf, Placed, AllPlaced}
-use Rattle.walk.proofs.Laws.{few, node-count, node-children}
-use Rattle.script_leaves.specs.Leaves.{leafOf}
+use Rattle.walk.specs.Nodes.{nodeOf, Placed}
+use Rattle.walk.proofs.Laws.{few, node-children}
 use Rattle.script_entry.specs.Pieces.{last, place}
 use Rattle.script_entry.proofs.Nodes.{placed-before, leaf-here}
 use Rattle.index_places.specs.Sizes.{sizeOf}
@@ -36,9 +33,10 @@ use Rattle.index_places.proofs.Parents.{kids-row, kids-before}
 use Rattle.index_places.proofs.Records.{same-ahead, node-size}
 use Rattle.index_places.proofs.Typed.{WellTyped, rule-at, height-at, well-typed, not-tall}
 use Rattle.index_places.proofs.Weights.{size-small}
-use Rattle.index_entry.specs.Memory.{sizeDigit, sizeIn, subtreeIn, Readable, sizeFrom, subtreesFrom, sizeWord, treeWord, fillOne}
-use Rattle.index_entry.specs.Building.{Ruled, Checked, Scanned, Known, Filling, Fill}
-use Rattle.index_entry.proofs.Words.{alone-back, before-back, slot-back, size-same, size-other, subtree-same, subtree-other}
+use Rattle.index_memory.specs.Memory.{sizeDigit, sizeIn, subtreeIn, treeWord}
+use Rattle.index_entry.specs.Memory.{Readable, sizeFrom, subtreesFrom, sizeWord, fillOne}
+use Rattle.index_entry.specs.Building.{Ruled, Scanned, Known, Filling, Fill}
+use Rattle.index_memory.proofs.Words.{alone-back, before-back, slot-back, size-same, size-other, subtree-same, subtree-other}
 
 -- ---- one record
 

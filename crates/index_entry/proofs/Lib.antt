@@ -1,9 +1,6 @@
-pub mod LeafSizes
-pub mod Words
 pub mod Records
 pub mod Filling
 pub mod Placing
-pub mod IndexBytes
 pub mod Promised
 pub mod Determined
 pub mod Lookups

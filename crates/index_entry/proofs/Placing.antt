@@ -1,33 +1,29 @@
 -- Each record is given its place, parents first. Assumes nothing.
-use Prim.Native.Nat.{ℕ, zero, suc, _+_, _-_, _*_, _≤_, _<_}
+use Prim.Native.Nat.{ℕ, suc, _+_, _-_, _≤_, _<_}
 use mathlib.Core.Bool.{Bool, true, false}
 use mathlib.Core.List.{List}
 use mathlib.Core.Logic.{_⊎_, inl, inr, ⊎-elim}
 use mathlib.Core.Path.{_≡_, refl, sym, ap, subst, _∙_}
 use native.Mathlib.Omega.{arith}
-use native.Mathlib.Numerals.{add-one}
 use borrow.Author.Tests.{eqb-true, eqb-false}
 use lib.Dec.{eqb}
 use lib.ListN.{length, getD, set, length-set}
 use lib.Seq.{getD-set-other}
-use Rattle.records.specs.RecordForm.{fragmentPayload}
-use Rattle.records.specs.Answers.{partsOf}
 use Rattle.contexts.specs.declared.Context.{Context}
-use Rattle.trees.specs.Fragment.{Fragment}
-use Rattle.walk.specs.TreeRecords.{recordAt, fragmentAt, TreeRecord, TreeRecords}
+use Rattle.walk.specs.TreeRecords.{recordAt, TreeRecord, TreeRecords}
 use Rattle.walk.specs.declared.Node.{Node}
-use Rattle.walk.specs.Nodes.{nodeOf, Placed, AllPlaced}
+use Rattle.walk.specs.Nodes.{nodeOf, Placed}
 use Rattle.walk.proofs.Laws.{few, node-count, child-is}
 use Rattle.script_entry.specs.Pieces.{place}
-use Rattle.script_entry.proofs.Nodes.{place-small, placed-before}
+use Rattle.script_entry.proofs.Nodes.{place-small}
 use Rattle.index_places.specs.Places.{kidsAt, kindAt, kid, ahead, sizeAt, aheadAt, Stands, root, child}
 use Rattle.index_places.proofs.Parents.{kids-row}
 use Rattle.index_places.proofs.Records.{same-ahead}
 use Rattle.index_places.proofs.Weights.{size-small}
 use Rattle.index_places.proofs.Stands.{place-in, kid-before, one-place, parent-of, in-script}
-use Rattle.index_entry.specs.Memory.{sizeIn, firstIn, subtreeIn}
-use Rattle.index_entry.specs.Building.{Children, Checked, Scanned, Known, Gives, firstUnder, Gave, Sized, Rooted, Giving}
-use Rattle.index_entry.proofs.Words.{first-same, first-other, size-other, subtree-other, size-kept, first-kept}
+use Rattle.index_memory.specs.Memory.{sizeIn, firstIn, subtreeIn}
+use Rattle.index_entry.specs.Building.{Children, Known, Gives, firstUnder, Gave, Sized, Rooted, Giving}
+use Rattle.index_memory.proofs.Words.{first-same, first-other, size-other, subtree-other, size-kept, first-kept}
 
 -- ---- the children of one record
 

@@ -2,43 +2,41 @@
 use Prim.Native.Nat.{ℕ, suc, _+_, _-_, _*_, _≤_, _<_}
 use mathlib.Core.Bool.{Bool, true, false}
 use mathlib.Core.List.{List, _++_}
-use mathlib.Core.Logic.{_⊎_, inl, inr}
+use mathlib.Core.Logic.{inl, inr}
 use mathlib.Core.Option.{Option, none, some}
 use mathlib.Core.Path.{_≡_, refl, sym, ap, subst, _∙_}
 use native.Mathlib.Omega.{arith}
 use borrow.Author.Tests.{eq-eqb, ne-eqb, eqb-true, eqb-false}
 use lib.Dec.{eqb}
-use lib.ListN.{length, getD, set, take, drop, replicate, length-append, length-drop}
+use lib.ListN.{length, set, take, drop, replicate, length-append, length-drop}
 use lib.Seq.{length-take-le}
 use Rattle.words.specs.Memory.{zeroed}
 use Rattle.types.specs.declared.TypeResult.the-variants.{Ok}
 use Rattle.types.specs.TypeOrder.{pack}
 use Rattle.contexts.specs.declared.Context.{Context}
-use Rattle.trees.specs.Fragment.{Fragment}
 use Rattle.trees.specs.Typing.{typeOf}
-use Rattle.trees.specs.Height.{maxHeight, heightOf}
 use Rattle.trees.specs.declared.Subtree.{Subtree}
 use Rattle.trees.specs.Reading.{Answer, refused, done, maxRecords}
-use Rattle.trees.specs.TreeCheck.{Typed, badContext, badWork, contextOf, checkOf}
+use Rattle.trees.specs.TreeCheck.{Typed, badContext, contextOf, checkOf}
 use Rattle.trees.proofs.Theorem.{passes-well-typed-trees}
 use Rattle.claspwillow.specs.Promises.{CheckPromise}
 use Rattle.claspwillow.proofs.CheckLaws.{passed, refused-as}
-use Rattle.walk.specs.TreeRecords.{fragmentAt, TreeRecords, Written}
-use Rattle.walk.specs.Nodes.{Placed, AllPlaced}
+use Rattle.walk.specs.TreeRecords.{fragmentAt, Written}
+use Rattle.walk.specs.Nodes.{Placed}
 use Rattle.walk.specs.Nodes as Nodes
 use Rattle.walk.proofs.Laws.{rows, all-placed, kept-length, same-count}
-use Rattle.index_places.specs.Places.{kid, sizeAt, Stands}
+use Rattle.index_places.specs.Places.{sizeAt, Stands}
 use Rattle.index_places.specs.Typed.{typeOr, subtreeOf}
-use Rattle.index_places.proofs.Stands.{kid-before, parent-of}
+use Rattle.index_places.proofs.Stands.{parent-of}
 use Rattle.index_places.proofs.Typed.{well-typed}
 use Rattle.index_entry.specs.declared.Given.{Given}
-use Rattle.index_entry.specs.Index.{Entry, EntryOf, IsIndex, outputTooSmall, workWords, treeIn, Indexed, IndexPromise}
+use Rattle.index_entry.specs.Index.{EntryOf, IsIndex, outputTooSmall, treeIn, Indexed, IndexPromise}
+use Rattle.index_memory.specs.Memory.{workWords, sizeIn, firstIn, subtreeIn, entryIn, indexIn}
 use Rattle.index_entry.specs.Index as Index
-use Rattle.index_entry.specs.Memory.{sizeIn, firstIn, subtreeIn, entryIn, indexIn}
 use Rattle.index_entry.specs.Building.{Checked, Scanned, Known, Filling, Sized, Rooted, Giving, Built, wrongLength, Outcome, fits, too-small, Answered, passes, refuses}
-use Rattle.index_entry.proofs.Words.{size-kept, subtree-kept}
+use Rattle.index_memory.proofs.Words.{size-kept, subtree-kept}
 use Rattle.index_entry.proofs.Placing.{known-rooted, rooted}
-use Rattle.index_entry.proofs.IndexBytes.{entries-long}
+use Rattle.index_memory.proofs.IndexBytes.{entries-long}
 
 -- ---- building
 

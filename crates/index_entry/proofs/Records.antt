@@ -1,8 +1,7 @@
 -- A record's size, type and height are read from its bytes and its children's words. Assumes nothing.
-use Prim.Native.Nat.{ℕ, zero, suc, _+_, _*_, _≤_, _<_}
+use Prim.Native.Nat.{ℕ, zero, suc, _+_, _≤_, _<_}
 use mathlib.Core.Bool.{Bool, true, false}
 use mathlib.Core.List.{List, [], _∷_, _++_, map}
-use mathlib.Core.Option.{Option, some}
 use mathlib.Core.Path.{_≡_, refl, sym, ap, subst, _∙_}
 use native.Mathlib.Numerals.{add-one}
 use native.Mathlib.Omega.{arith}
@@ -12,7 +11,7 @@ use lib.ListN.{length, getD, set, take, replicate, length-set}
 use lib.Seq.{getD-take, take-suc, take-suc-set}
 use Rattle.records.specs.declared.Parts.{Parts}
 use Rattle.records.specs.Shapes.{arity}
-use Rattle.records.specs.Payloads.{Payload, childrenOf}
+use Rattle.records.specs.Payloads.{childrenOf}
 use Rattle.records.specs.RecordForm.{kindOf, fragmentPayload}
 use Rattle.records.specs.Answers.{partsOf}
 use Rattle.records.proofs.Arities.{Found, own-children, few-children, rule-needs, same-children}
@@ -31,7 +30,8 @@ use Rattle.script_entry.specs.Pieces.{front, after, last, childVerified, place}
 use Rattle.script_entry.proofs.Nodes.{place-one}
 use Rattle.index_places.specs.Sizes.{sizeOf}
 use Rattle.index_places.specs.Places.{ahead}
-use Rattle.index_entry.specs.Memory.{sizeIn, subtreeIn, Readable, sizeFrom, subtreesFrom}
+use Rattle.index_memory.specs.Memory.{sizeIn, subtreeIn}
+use Rattle.index_entry.specs.Memory.{Readable, sizeFrom, subtreesFrom}
 use Rattle.index_entry.specs.Building.{Children, Ruled}
 
 -- ---- what is ahead, child by child

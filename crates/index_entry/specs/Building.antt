@@ -1,5 +1,5 @@
 -- What the functions that build an index ask and leave, for the inner contracts: document 02, R-11.
-use Prim.Native.Nat.{ℕ, zero, suc, _+_, _*_, _-_, _/_, _%_, _≤_, _<_}
+use Prim.Native.Nat.{ℕ, suc, _+_, _*_, _-_, _≤_, _<_}
 use mathlib.Core.Bool.{Bool, false}
 use mathlib.Core.List.{List, _++_}
 use mathlib.Core.Logic.{_⊎_}
@@ -16,14 +16,15 @@ use Rattle.trees.specs.Reading.{refused, done, maxRecords}
 use Rattle.trees.specs.Rules.{ruleOf, typesOf, tallest}
 use Rattle.trees.specs.TreeCheck.{Typed, badContext, badWork, contextOf, checkOf}
 use Rattle.trees.specs.declared.Subtree.{Subtree}
-use Rattle.walk.specs.TreeRecords.{recordAt, fragmentAt, TreeRecords}
+use Rattle.walk.specs.TreeRecords.{fragmentAt, TreeRecords}
 use Rattle.walk.specs.Nodes.{nodeOf, AllPlaced}
 use Rattle.script_entry.specs.Pieces.{place}
 use Rattle.index_places.specs.Places.{kidsAt, kindAt, kid, ahead, sizeAt, Stands}
 use Rattle.index_places.specs.Typed.{typeOr, subtreeOf}
 use Rattle.index_entry.specs.declared.Given.{Given}
-use Rattle.index_entry.specs.Index.{Entry, EntryOf, IsIndex, outputTooSmall}
-use Rattle.index_entry.specs.Memory.{sizeIn, firstIn, subtreeIn, entryIn, subtreesFrom}
+use Rattle.index_entry.specs.Index.{EntryOf, IsIndex, outputTooSmall}
+use Rattle.index_memory.specs.Memory.{sizeIn, firstIn, subtreeIn, entryIn}
+use Rattle.index_entry.specs.Memory.{subtreesFrom}
 
 -- the words of a record's first n children, in the script's order, are there
 pub record Children (work : List ℕ) (kind : ℕ) (children : List ℕ) (n : ℕ) : Type 0 where
@@ -116,20 +117,6 @@ pub record Built (c : Context) (tree work : List ℕ) (count : ℕ) : Type 0 whe
   pub few : count ≤ 4096
   pub room : length work ≡ 16384
   pub each : (i : ℕ) → i < count → EntryOf c tree count i (entryIn work i)
-
--- ---- the index in bytes
-
-abbrev pub part : Entry → (place : ℕ) → ℕ
-part e zero = e .type
-part e (suc zero) = e .height
-part e (suc (suc zero)) = e .first
-part e (suc (suc (suc n))) = e .size
-
-abbrev pub digit : (place n : ℕ) → ℕ
-digit zero n = n % 256
-digit (suc zero) n = n / 256 % 256
-digit (suc (suc zero)) n = n / 256 / 256 % 256
-digit (suc (suc (suc p))) n = n / 256 / 256 / 256 % 256
 
 -- ---- the entry's answers
 

@@ -1,14 +1,13 @@
 -- What the entries give: document 02, R-11. A context or work memory that is none of its own, then the tree, are refused as the tree check does. The index
 -- of a tree has an entry of 16 bytes for each record, record 0 first: the packed type, the height, the first byte and the length in the script, a u32
 -- each. Too little room for it is 13. An index that is not the tree's is 20; else a byte is looked up.
-use Prim.Native.Nat.{ℕ, zero, suc, _-_, _*_, _≤_, _<_}
+use Prim.Native.Nat.{ℕ, _-_, _*_, _≤_, _<_}
 use mathlib.Core.Bool.{cond}
-use mathlib.Core.List.{List, [], _++_}
+use mathlib.Core.List.{List, _++_}
 use mathlib.Core.Option.{Option, none, some}
 use mathlib.Core.Path.{_≡_}
 use lib.Dec.{eqb}
 use lib.ListN.{length, drop}
-use Rattle.words.specs.Bytes.{bytesOf}
 use Rattle.words.specs.Memory.{zeroed}
 use Rattle.types.specs.declared.«Type».{«Type»}
 use Rattle.types.specs.declared.TypeResult.the-variants.{Ok}
@@ -19,6 +18,8 @@ use Rattle.trees.specs.Height.{heightOf}
 use Rattle.trees.specs.Reading.{Answer, refused, done, _>>=_, orRefuse, maxRecords}
 use Rattle.trees.specs.TreeCheck.{Typed, badContext, badWork, contextOf, checkOf}
 use Rattle.walk.specs.TreeRecords.{fragmentAt, TreeRecords}
+use Rattle.index_memory.specs.Entries.{Entry, entriesBytes}
+use Rattle.index_memory.specs.Memory.{workWords}
 use Rattle.index_places.specs.Places.{spanAt, Stands, Holds, Beneath}
 
 -- the numbers of the refusals that come after the tree check's
@@ -28,10 +29,7 @@ outputTooSmall = 13
 abbrev pub notItsIndex : ℕ
 notItsIndex = 20
 
--- the one length of work memory: four words for each record that a tree may have
-abbrev pub workWords : ℕ
-workWords = 16384
-
+-- work memory has its one length, four words for each record that a tree may have
 abbrev pub workOf : ℕ → Option ℕ
 workOf words = cond (eqb words workWords) (some words) none
 
@@ -42,21 +40,7 @@ treeIn context tree work = do
   _ ← orRefuse badWork (workOf (length work))
   checkOf context tree maxRecords
 
--- ---- the index
-
-pub record Entry : Type 0 where
-  pub type : ℕ
-  pub height : ℕ
-  pub first : ℕ
-  pub size : ℕ
-
-abbrev pub entryBytes : Entry → List ℕ
-entryBytes e = bytesOf 4 (e .type) ++ (bytesOf 4 (e .height) ++ (bytesOf 4 (e .first) ++ bytesOf 4 (e .size)))
-
--- the entries of the first records
-unfoldable pub entriesBytes : (ℕ → Entry) → ℕ → List ℕ
-entriesBytes entry zero = []
-entriesBytes entry (suc n) = entriesBytes entry n ++ entryBytes (entry n)
+-- ---- the index: its entries in bytes are those of crate index_memory, specs/Entries.antt
 
 -- what stands in the entry of record i
 pub record EntryOf (c : Context) (tree : List ℕ) (count i : ℕ) (e : Entry) : Type 0 where

@@ -1,10 +1,8 @@
 -- What the functions that look a byte up leave, for the inner contracts: document 02, R-11.
-use Prim.Native.Nat.{ℕ, _+_, _≤_, _<_}
-use mathlib.Core.Bool.{Bool, true, false, _&&_}
+use Prim.Native.Nat.{ℕ}
 use mathlib.Core.List.{List}
 use mathlib.Core.Option.{some}
 use mathlib.Core.Path.{_≡_}
-use lib.Dec.{leb, ltb}
 use Rattle.contexts.specs.declared.Context.{Context}
 use Rattle.trees.specs.Fragment.{Fragment}
 use Rattle.trees.specs.Reading.{refused, done, maxRecords}
@@ -12,21 +10,6 @@ use Rattle.trees.specs.TreeCheck.{Typed, contextOf, checkOf}
 use Rattle.walk.specs.TreeRecords.{TreeRecords}
 use Rattle.index_entry.specs.declared.Told.{Told}
 use Rattle.index_entry.specs.Index.{IsIndex, notItsIndex, Looked}
-use Rattle.index_entry.specs.Memory.{sizeIn, firstIn}
-
-pub record Compared (given index : List ℕ) (r : Bool) : Type 0 where
-  pub yes : r ≡ true → given ≡ index
-  pub no : r ≡ false → given ≡ index → ⊥
-
--- byte `at` lies in the range that work memory has of record i
-unfoldable pub holdsIn : (work : List ℕ) (i at : ℕ) → Bool
-holdsIn work i at = leb (firstIn work i) at && ltb at (firstIn work i + sizeIn work false i)
-
--- no record before this one does, and it does if it is one
-pub record FirstHolding (work : List ℕ) (count at r : ℕ) : Type 0 where
-  pub within : r ≤ count
-  pub none : (k : ℕ) → k < r → holdsIn work k at ≡ false
-  pub here : r < count → holdsIn work r at ≡ true
 
 -- a tree that the check passed: its index is looked up, another is refused
 pub data FindOutcome (c : Context) (tree index : List ℕ) (at : ℕ) (r : Told) : Type 0 where

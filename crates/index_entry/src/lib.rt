@@ -2,23 +2,21 @@
 // ask nothing of their caller.
 //
 // The entries' promises stand in specs/Index.antt, over the places of the crate `index_places`; proofs/Determined.antt shows that they determine the
-// outcome. The inner contracts cite specs/Memory.antt and specs/Building.antt.
-ghost use mathlib.Core.List.{_++_, map};
+// outcome. The inner contracts cite specs/Memory.antt and specs/Building.antt, over
+// the index in work memory of the crate `index_memory`; leaves and the pieces around children have the sizes of the crate `index_sizes`.
+ghost use mathlib.Core.List.{map};
 ghost use mathlib.Core.Path.{_≡_};
-ghost use Prim.Native.Nat.{ℕ, suc, _+_, _-_, _*_, _/_, _%_, _≤_, _<_};
-ghost use lib.ListN.{length, getD, set, take, drop};
+ghost use Prim.Native.Nat.{ℕ, _+_, _-_, _*_, _≤_, _<_};
+ghost use lib.ListN.{length, getD, set, take};
 ghost use Rattle.contexts.specs.declared.Context.{Context};
-ghost use Rattle.script_leaves.specs.Leaves.{numbered, leafOf};
-ghost use Rattle.script_entry.specs.Pieces.{front, after, last};
-ghost use Rattle.index_places.specs.Sizes.{verifySize, numberSize, keyPush, sizeOf};
 ghost use Rattle.index_places.specs.Places.{ahead};
-ghost use Rattle.index_entry.specs.Index.{workWords, IndexPromise, FindPromise};
-ghost use Rattle.index_entry.specs.Memory.{sizeIn, firstIn, subtreeIn, entryIn, indexIn, Readable, sizeFrom, fillOne};
+ghost use Rattle.index_memory.specs.Memory.{workWords, sizeIn, subtreeIn};
+ghost use Rattle.index_entry.specs.Index.{IndexPromise, FindPromise};
+ghost use Rattle.index_entry.specs.Memory.{Readable, sizeFrom, fillOne};
 ghost use Rattle.trees.specs.Height.{maxHeight};
-ghost use Rattle.index_entry.specs.Building.{Children, Ruled, Fill, Scanned, Filling, Gives, Gave, Rooted, Giving, Checked, Built, part, digit, wrongLength, Outcome, Answered};
-ghost use Rattle.index_entry.specs.Looking.{Compared, holdsIn, FirstHolding, FindOutcome, FindAnswered};
+ghost use Rattle.index_entry.specs.Building.{Children, Ruled, Fill, Scanned, Filling, Gives, Gave, Rooted, Giving, Checked, Built, wrongLength, Outcome, Answered};
+ghost use Rattle.index_entry.specs.Looking.{FindOutcome, FindAnswered};
 use contexts::Context;
-use trees::Slot;
 use trees::Subtree;
 use types::Type;
 use types::TypeResult;
@@ -36,12 +34,6 @@ const NOT_ITS_INDEX: u32 = 20;
 // The one length of work memory: four words a record, in four parts. The first has where the records begin; the tree check takes it before.
 const WORK_WORDS: usize = 16384;
 
-const SIZES: usize = 4096;
-
-const PLACES: usize = 8192;
-
-const TYPES: usize = 12288;
-
 // The number of an outcome and the bytes that it wrote.
 pub struct Given {
     pub number: u32,
@@ -55,149 +47,21 @@ pub struct Told {
     pub it: u32,
 }
 
-// The push of a number.
-fn number_size(n: u32) -> u64
-    ensures { λ r. ⌜ (r ≡ numberSize n) × (r ≤ 256) ⌝ }
-{
-    if n <= 16 {
-        return 1;
-    }
-    1 + script_leaves::width_of(n) as u64
-}
-
-// A VERIFY that is not merged.
-fn verify_size(verified: bool) -> u64
-    ensures { λ r. ⌜ (r ≡ verifySize verified) × (r ≤ 1) ⌝ }
-{
-    if verified { 1 } else { 0 }
-}
-
-// The push of a key.
-fn key_push(context: Context) -> u64
-    ensures { λ r. ⌜ (r ≡ keyPush context) × (r ≤ 34) ⌝ }
-{
-    match context {
-        Context::Segwitv0 => 34,
-        Context::Tap => 33,
-    }
-}
-
-// A leaf that holds one number or none.
-fn numbered_size(context: Context, kind: u16, n: u32, verified: bool) -> u64
-    ensures { λ r. ⌜ (r ≡ sizeOf context verified (numbered kind n)) × (r ≤ 512) ⌝ }
-{
-    let more = verify_size(verified);
-    match kind {
-        33 => 1 + more,
-        34 => key_push(context) + more,
-        35 => 24 + more,
-        36 => number_size(n) + (1 + more),
-        37 => number_size(n) + (1 + more),
-        38 => 39,
-        39 => 39,
-        40 => 27,
-        41 => 27,
-        _ => 1 + more,
-    }
-}
-
-// A leaf.
-fn leaf_size(context: Context, bytes: &[u8], verified: bool) -> u64
-    ensures { λ r. ⌜ r ≡ sizeOf context verified (leafOf (now (bytes .entry))) ⌝ }
-{
-    let kind = records::kind_of(bytes);
-    let k = records::k_of(bytes) as u32;
-    let count = records::count_of(bytes) as u32;
-    match kind {
-        57 => number_size(k) + key_push(context) * (count as u64) + (number_size(count) + 1),
-        58 => (key_push(context) + 1) * (count as u64) + (number_size(k) + 1),
-        _ => numbered_size(context, kind, records::number_of(bytes), verified),
-    }
-}
-
-// What stands before the first child.
-fn front_size(kind: u16) -> u64
-    ensures { λ r. ⌜ (r ≡ length (front kind)) × (r ≤ 3) ⌝ }
-{
-    match kind {
-        42 => 1,
-        43 => 1,
-        45 => 2,
-        47 => 3,
-        54 => 1,
-        _ => 0,
-    }
-}
-
-// What follows the first child.
-fn after_first_size(kind: u16) -> u64
-    ensures { λ r. ⌜ (r ≡ length (after kind 0)) × (r ≤ 2) ⌝ }
-{
-    match kind {
-        52 => 2,
-        53 => 1,
-        54 => 1,
-        55 => 1,
-        _ => 0,
-    }
-}
-
-// What follows child number j.
-fn after_size(kind: u16, j: usize) -> u64
-    ensures { λ r. ⌜ (r ≡ length (after kind j)) × (r ≤ 2) ⌝ }
-{
-    if j == 0 {
-        return after_first_size(kind);
-    }
-    match kind {
-        55 => {
-            if j == 1 {
-                return 1;
-            }
-            0
-        }
-        56 => 1,
-        _ => 0,
-    }
-}
-
-// What stands last.
-fn last_size(kind: u16, k: u16, verified: bool) -> u64
-    ensures { λ r. ⌜ (r ≡ length (last kind k verified)) × (r ≤ 512) ⌝ }
-{
-    match kind {
-        43 => 0,
-        44 => 1,
-        46 => verify_size(verified),
-        50 => 0,
-        56 => number_size(k as u32) + 1,
-        _ => 1 + verify_size(verified),
-    }
-}
-
-// The size of record i, alone or before a VERIFY.
-fn size_at(work: &[u64], i: usize, verified: bool) -> u64
-    requires { ⌜ (length (now work) ≡ workWords) × (i < 4096) ⌝ }
-    ensures { λ r. ⌜ (r ≡ sizeIn (now (work .entry)) verified i) × (r ≤ 4294967295) ⌝ }
-{
-    let word = work[SIZES + i];
-    if verified {
-        return word / 4294967296 % 4294967296;
-    }
-    word % 4294967296
-}
-
 // The bytes of a record ahead of its child number n in the script, from the sizes of its children.
 fn ahead(work: &[u64], kind: u16, children: [u16; 16], verified: bool, n: usize) -> u64
     requires { ⌜ Children (now work) kind children n ⌝ }
     ensures { λ r. ⌜ (r ≡ ahead kind verified (λ w m. sizeIn (now (work .entry)) w (getD children m 0)) n) × (r ≤ 3 + n * 4294967297) ⌝ }
 {
-    let mut at = front_size(kind);
+    let mut at = index_sizes::front_size(kind);
     let mut j = 0;
     while j < n {
         let child = children[script_entry::place(kind, j)] as usize;
-        let size = size_at(work, child, script_entry::child_verified(kind, j, verified));
-        at = at + (size + after_size(kind, j));
+        let size = index_memory::size_at(
+            work,
+            child,
+            script_entry::child_verified(kind, j, verified),
+        );
+        at = at + (size + index_sizes::after_size(kind, j));
         j += 1;
     }
     at
@@ -211,25 +75,11 @@ fn record_size(context: Context, bytes: &[u8], work: &[u64], verified: bool) -> 
     let node = walk::node_of(bytes);
     let n = node.n;
     if n == 0 {
-        return leaf_size(context, bytes, verified);
+        return index_sizes::leaf_size(context, bytes, verified);
     }
     let kind = node.kind;
     let children = node.children;
-    ahead(work, kind, children, verified, n) + last_size(kind, node.k, verified)
-}
-
-// The type and the height of record i.
-fn subtree_at(work: &[u64], i: usize) -> Subtree
-    requires { ⌜ (length (now work) ≡ workWords) × (i < 4096) ⌝ }
-    ensures { λ r. ⌜ r ≡ subtreeIn (now (work .entry)) i ⌝ }
-{
-    match trees::slot_of(work[TYPES + i]) {
-        Slot::Free(x) => x,
-        Slot::Taken => Subtree {
-            ty: Type::of_false(),
-            height: 0,
-        },
-    }
+    ahead(work, kind, children, verified, n) + index_sizes::last_size(kind, node.k, verified)
 }
 
 // Those of the first n of some records.
@@ -245,7 +95,7 @@ fn load(work: &[u64], numbers: [u16; 16], n: usize) -> [Subtree; 16]
     let mut j = 0;
     while j < n {
         let number = numbers[j] as usize;
-        out[j] = subtree_at(work, number);
+        out[j] = index_memory::subtree_at(work, number);
         j += 1;
     }
     out
@@ -293,8 +143,8 @@ fn fill_record(context: Context, tree: &[u8], work: &mut [u64], i: usize)
     let before = record_size(context, &tree[start..end], work, true);
     let x = record_subtree(context, &tree[start..end], work);
     let ty = x.ty;
-    work[SIZES + i] = alone + before * 4294967296;
-    work[TYPES + i] = (ty.pack() as u64) + 1 + x.height * 1024;
+    work[index_memory::SIZES + i] = alone + before * 4294967296;
+    work[index_memory::TYPES + i] = (ty.pack() as u64) + 1 + x.height * 1024;
 }
 
 // Stores those of every record, children first.
@@ -309,21 +159,13 @@ fn fill(context: Context, tree: &[u8], work: &mut [u64], count: usize)
     }
 }
 
-// The first byte of record i.
-fn first_at(work: &[u64], i: usize) -> u64
-    requires { ⌜ (length (now work) ≡ workWords) × (i < 4096) ⌝ }
-    ensures { λ r. ⌜ r ≡ firstIn (now (work .entry)) i ⌝ }
-{
-    work[PLACES + i]
-}
-
 // Stores where the children of record i stand.
 fn give_places(tree: &[u8], work: &mut [u64], i: usize)
     requires { ⌜ Gives (now tree) (now work) i ⌝ }
     ensures { λ _. ⌜ Gave (now (tree .entry)) (now (work .entry)) (now (work .exit)) i ⌝ }
 {
     let node = walk::node_at(tree, work, i);
-    let at = first_at(work, i);
+    let at = index_memory::first_at(work, i);
     let kind = node.kind;
     let n = node.n;
     let children = node.children;
@@ -331,7 +173,7 @@ fn give_places(tree: &[u8], work: &mut [u64], i: usize)
     while j < n {
         let child = children[script_entry::place(kind, j)] as usize;
         let before = ahead(work, kind, children, false, j);
-        work[PLACES + child] = at + before;
+        work[index_memory::PLACES + child] = at + before;
         j += 1;
     }
 }
@@ -341,7 +183,7 @@ fn give_root(work: &mut [u64], root: usize)
     requires { ⌜ (length (now work) ≡ workWords) × (root < 4096) ⌝ }
     ensures { λ _. ⌜ now (work .exit) ≡ set (now (work .entry)) (8192 + root) 0 ⌝ }
 {
-    work[PLACES + root] = 0;
+    work[index_memory::PLACES + root] = 0;
 }
 
 // Stores where every other record stands, parents first.
@@ -368,53 +210,6 @@ fn build(context: Context, tree: &[u8], work: &mut [u64]) -> usize
     count
 }
 
-// A number of the entry of record i: its type, its height, its first byte or its length.
-fn number_at(work: &[u64], i: usize, place: usize) -> u64
-    requires { ⌜ (length (now work) ≡ workWords) × (i < 4096) ⌝ }
-    ensures { λ r. ⌜ r ≡ part (entryIn (now (work .entry)) i) place ⌝ }
-{
-    match place {
-        0 => {
-            let x = subtree_at(work, i);
-            let ty = x.ty;
-            ty.pack() as u64
-        }
-        1 => {
-            let x = subtree_at(work, i);
-            x.height
-        }
-        2 => first_at(work, i),
-        _ => size_at(work, i, false),
-    }
-}
-
-// Byte j of the index.
-fn byte_at(work: &[u64], j: usize) -> u8
-    requires { ⌜ (length (now work) ≡ workWords) × (j < 65536) ⌝ }
-    ensures { λ r. ⌜ r ≡ digit (j % 4) (part (entryIn (now (work .entry)) (j / 16)) (j % 16 / 4)) ⌝ }
-{
-    let n = number_at(work, j / 16, j % 16 / 4);
-    match j % 4 {
-        0 => (n % 256) as u8,
-        1 => (n / 256 % 256) as u8,
-        2 => (n / 256 / 256 % 256) as u8,
-        _ => (n / 256 / 256 / 256 % 256) as u8,
-    }
-}
-
-// Writes the index of so many records.
-fn write_index(out: &mut [u8], work: &[u64], count: usize)
-    requires { ⌜ (length (now work) ≡ workWords) × (count ≤ 4096) × (16 * count ≤ length (now out)) ⌝ }
-    ensures { λ _. ⌜ now (out .exit) ≡ indexIn (now (work .entry)) count ++ drop (16 * count) (now (out .entry)) ⌝ }
-{
-    let end = 16 * count;
-    let mut j = 0;
-    while j < end {
-        out[j] = byte_at(work, j);
-        j += 1;
-    }
-}
-
 // The index of a tree that the check passed.
 fn index_in(context: Context, tree: &[u8], out: &mut [u8], work: &mut [u64]) -> Given
     requires { ⌜ Checked context (now tree) × (length (now work) ≡ workWords) ⌝ }
@@ -424,7 +219,7 @@ fn index_in(context: Context, tree: &[u8], out: &mut [u8], work: &mut [u64]) -> 
     let count = build(context, tree, work);
     let bytes = 16 * count;
     if bytes <= out.len() {
-        write_index(out, work, count);
+        index_memory::write_index(out, work, count);
         return Given {
             number: 0,
             bytes: bytes as u64,
@@ -443,7 +238,12 @@ fn index_checked(context: u32, tree: &[u8], out: &mut [u8], work: &mut [u64]) ->
     ensures { λ _. ⌜ length (now (work .exit)) ≡ length (now (work .entry)) ⌝ }
 {
     let mut ty = 0;
-    let number = claspwillow::claspwillow_check(context, tree, &mut work[0..SIZES], &mut ty);
+    let number = claspwillow::claspwillow_check(
+        context,
+        tree,
+        &mut work[0..index_memory::SIZES],
+        &mut ty,
+    );
     if number == 0 {
         return index_in(claspwillow::context_of(context), tree, out, work);
     }
@@ -493,55 +293,6 @@ pub extern "C" fn claspwillow_index_work() -> usize
     WORK_WORDS
 }
 
-// Whether some bytes are the index of so many records.
-fn same_index(index: &[u8], work: &[u64], count: usize) -> bool
-    requires { ⌜ (length (now work) ≡ workWords) × (count ≤ 4096) ⌝ }
-    ensures { λ r. ⌜ Compared (now (index .entry)) (indexIn (now (work .entry)) count) r ⌝ }
-{
-    let end = 16 * count;
-    if index.len() != end {
-        return false;
-    }
-    let mut j = 0;
-    while j < end {
-        let b = byte_at(work, j);
-        if index[j] != b {
-            return false;
-        }
-        j += 1;
-    }
-    true
-}
-
-// Whether byte `at` of the script is one of record i's.
-fn holds(work: &[u64], i: usize, at: u64) -> bool
-    requires { ⌜ (length (now work) ≡ workWords) × (i < 4096) ⌝ }
-    ensures { λ r. ⌜ r ≡ holdsIn (now (work .entry)) i at ⌝ }
-{
-    let first = first_at(work, i);
-    let size = size_at(work, i, false);
-    if at < first {
-        return false;
-    }
-    at - first < size
-}
-
-// The first of so many records that holds byte `at` of the script, or how many there are.
-fn first_holding(work: &[u64], count: usize, at: u64) -> usize
-    requires { ⌜ (length (now work) ≡ workWords) × (count ≤ 4096) ⌝ }
-    ensures { λ r. ⌜ FirstHolding (now (work .entry)) count at r ⌝ }
-{
-    let mut i = 0;
-    while i < count {
-        let here = holds(work, i, at);
-        if here {
-            return i;
-        }
-        i += 1;
-    }
-    count
-}
-
 // Looks byte `at` of the script up, where the index is that of a tree that the check passed.
 fn find_in(context: Context, tree: &[u8], index: &[u8], at: u64, work: &mut [u64]) -> Told
     requires { ⌜ Checked context (now tree) × (length (now work) ≡ workWords) ⌝ }
@@ -549,9 +300,9 @@ fn find_in(context: Context, tree: &[u8], index: &[u8], at: u64, work: &mut [u64
     ensures { λ _. ⌜ length (now (work .exit)) ≡ length (now (work .entry)) ⌝ }
 {
     let count = build(context, tree, work);
-    let same = same_index(index, work, count);
+    let same = index_memory::same_index(index, work, count);
     if same {
-        let i = first_holding(work, count, at);
+        let i = index_memory::first_holding(work, count, at);
         if i < count {
             return Told {
                 number: 0,
@@ -579,7 +330,12 @@ fn find_checked(context: u32, tree: &[u8], index: &[u8], at: u64, work: &mut [u6
     ensures { λ _. ⌜ length (now (work .exit)) ≡ length (now (work .entry)) ⌝ }
 {
     let mut ty = 0;
-    let number = claspwillow::claspwillow_check(context, tree, &mut work[0..SIZES], &mut ty);
+    let number = claspwillow::claspwillow_check(
+        context,
+        tree,
+        &mut work[0..index_memory::SIZES],
+        &mut ty,
+    );
     if number == 0 {
         return find_in(claspwillow::context_of(context), tree, index, at, work);
     }

@@ -1,5 +1,5 @@
--- The names of fragments and of answers, under their numbers: document 01, "Records" and "Numbers the console shows"; 17 is from
--- document 02, R-1. Assumes nothing.
+-- The names of fragments and of answers, under their numbers: document 01, "Records" and "Numbers the console shows"; those from 17 on are
+-- document 02's: R-1 has 17, R-3 18, R-8 19, R-11 20, and R-14 21 to 26. Assumes nothing.
 use mathlib.Core.Bool.{cond}
 use mathlib.Core.List.{List, [], _∷_}
 use Prim.Native.Nat.{ℕ}
@@ -63,7 +63,15 @@ answers =
     ∷ 15 named "IllTyped"
     ∷ 16 named "TreeTooLarge"
     ∷ 17 named "NoEntry"
+    ∷ 18 named "KeyTooLarge"
     ∷ 19 named "TreeTooTall"
+    ∷ 20 named "OtherIndex"
+    ∷ 21 named "TooManyVariables"
+    ∷ 22 named "NotBaseB"
+    ∷ 23 named "Unsafe"
+    ∷ 24 named "Malleable"
+    ∷ 25 named "LocallyInvalid"
+    ∷ 26 named "OtherMeaning"
     ∷ []
 
 -- the name of a number, none where the table has no such number

@@ -49,30 +49,38 @@ pub fn kind_name(kind: u16) -> [u8; 12]
 }
 
 // The name of a call's number.
-pub fn answer_name(number: u32) -> [u8; 15]
-    ensures { λ r. ⌜ r ≡ inPlaces 15 (nameIn answers number) ⌝ }
+pub fn answer_name(number: u32) -> [u8; 16]
+    ensures { λ r. ⌜ r ≡ inPlaces 16 (nameIn answers number) ⌝ }
 {
     match number {
-        0 => *b"done           ",
-        1 => *b"BadContext     ",
-        2 => *b"BadWork        ",
-        3 => *b"BadPolicy      ",
-        4 => *b"ZeroWeight     ",
-        5 => *b"PolicyTooLarge ",
-        6 => *b"NodesFull      ",
-        7 => *b"TableFull      ",
-        8 => *b"CacheFull      ",
-        9 => *b"FuelSpent      ",
-        10 => *b"NotACost       ",
-        11 => *b"LimitsExceeded ",
-        12 => *b"TopLevelNonSafe",
-        13 => *b"OutputTooSmall ",
-        14 => *b"BadTree        ",
-        15 => *b"IllTyped       ",
-        16 => *b"TreeTooLarge   ",
-        17 => *b"NoEntry        ",
-        19 => *b"TreeTooTall    ",
-        _ => *b"               ",
+        0 => *b"done            ",
+        1 => *b"BadContext      ",
+        2 => *b"BadWork         ",
+        3 => *b"BadPolicy       ",
+        4 => *b"ZeroWeight      ",
+        5 => *b"PolicyTooLarge  ",
+        6 => *b"NodesFull       ",
+        7 => *b"TableFull       ",
+        8 => *b"CacheFull       ",
+        9 => *b"FuelSpent       ",
+        10 => *b"NotACost        ",
+        11 => *b"LimitsExceeded  ",
+        12 => *b"TopLevelNonSafe ",
+        13 => *b"OutputTooSmall  ",
+        14 => *b"BadTree         ",
+        15 => *b"IllTyped        ",
+        16 => *b"TreeTooLarge    ",
+        17 => *b"NoEntry         ",
+        18 => *b"KeyTooLarge     ",
+        19 => *b"TreeTooTall     ",
+        20 => *b"OtherIndex      ",
+        21 => *b"TooManyVariables",
+        22 => *b"NotBaseB        ",
+        23 => *b"Unsafe          ",
+        24 => *b"Malleable       ",
+        25 => *b"LocallyInvalid  ",
+        26 => *b"OtherMeaning    ",
+        _ => *b"                ",
     }
 }
 

@@ -56,7 +56,7 @@ fn run(text: &[u8])
 {
     let mut policy = [0u8; 262_144];
     let mut stored = [0u8; 262_144];
-    let mut out = [0u8; 294_912];
+    let mut out = [0u8; 557_056];
     let mut work = [0u64; 612_360];
     show_tally(replay(text, &mut policy, &mut stored, &mut out, &mut work));
 }

@@ -16,15 +16,15 @@ use Rattle.candidates.specs.declared.Candidate.{Candidate}
 use Rattle.memory.specs.Layout.{nodeCount, maxRows}
 use Rattle.nodes.specs.Words.{nodeAt, rowChild}
 use Rattle.nodes.specs.Answers.{Holds}
-use Rattle.output.specs.Records.{heldAt, fragmentKind, kindAt, frontLength, arityAt, namedChild, childAt}
+use Rattle.output.specs.Records.{heldAt, fragmentKind, kindAt, numberWidth, frontLength, arityAt, namedChild, childAt}
 use Rattle.output.proofs.Shapes.{in-range, out-below, out-above}
 
 -- ---- kinds
 
-pub front-number : (kind n : ℕ) → 34 ≤ kind → kind ≤ 41 → 4 ≡ frontLength kind n
+pub front-number : (kind n : ℕ) → 34 ≤ kind → kind ≤ 41 → numberWidth kind ≡ frontLength kind n
 front-number kind n l h = rw (in-range 34 41 kind l h)
 
-pub front-keys : (kind n : ℕ) → 57 ≤ kind → kind ≤ 58 → 4 + 4 * n ≡ frontLength kind n
+pub front-keys : (kind n : ℕ) → 57 ≤ kind → kind ≤ 58 → 4 + 8 * n ≡ frontLength kind n
 front-keys kind n l h = rw (out-above 34 41 kind (omega arith), ne-eqb kind 56 (λ e. omega arith), in-range 57 58 kind l h)
 
 pub front-low : (kind n : ℕ) → kind < 34 → 0 ≡ frontLength kind n

@@ -2,10 +2,10 @@
 use mathlib.Core.Path.{_≡_, refl, _∙_, ap}
 use mathlib.Core.Bool.{Bool, true, false, cond}
 use mathlib.Core.List.{List, [], _∷_, _++_}
-use Prim.Native.Nat.{ℕ, zero, suc, _+_, _*_, _≤_}
+use Prim.Native.Nat.{ℕ, zero, suc, _+_, _*_, _<_, _≤_}
 use native.Mathlib.Omega.{arith}
-use borrow.Author.Tests.{ltb-true, ltb-false}
-use lib.Dec.{eqb, ltb}
+use borrow.Author.Tests.{ltb-true, ltb-false, le-leb, lt-leb}
+use lib.Dec.{eqb, ltb, leb}
 use lib.ListN.{length, length-append, length-map}
 use Rattle.records.specs.Numbers.{between}
 use Rattle.words.specs.Bytes.{bytesOf}
@@ -20,7 +20,7 @@ use Rattle.policies.specs.declared.Head.{Head}
 use Rattle.policies.proofs.Views.{stored-is, stored-count, past-head}
 use Rattle.nodes.specs.Words.{nodeAt}
 use Rattle.nodes.specs.Views.{keysOf}
-use Rattle.output.specs.Records.{treeAt, heldAt, countAt, frontAt, frontLength, arityAt, childNodes, lengthAt}
+use Rattle.output.specs.Records.{treeAt, heldAt, countAt, numberWidth, frontAt, frontLength, arityAt, childNodes, lengthAt}
 use Rattle.output.specs.Answers.{Readable}
 use Rattle.output.proofs.Shapes.{shape, out-below}
 
@@ -88,16 +88,16 @@ mutual
 -- ---- the front
 
 front-long : (kind : ℕ) (p : Policy) (a b c : Bool)
-    → length (cond a (bytesOf 4 (numberOf p)) (cond b (kAndN (kOf p) (length (childrenOf p)))
-    (cond c (kAndN (kOf p) (length (childrenOf p)) ++ inRow 4 (keysOf p)) [])))
-    ≡ cond a 4 (cond b 4 (cond c (4 + 4 * length (childrenOf p)) 0))
-front-long kind p true b c = length-bytes 4 (numberOf p)
+    → length (cond a (bytesOf (numberWidth kind) (numberOf p)) (cond b (kAndN (kOf p) (length (childrenOf p)))
+    (cond c (kAndN (kOf p) (length (childrenOf p)) ++ inRow 8 (keysOf p)) [])))
+    ≡ cond a (numberWidth kind) (cond b 4 (cond c (4 + 8 * length (childrenOf p)) 0))
+front-long kind p true b c = length-bytes (numberWidth kind) (numberOf p)
 front-long kind p false true c = length-row 2 (kOf p ∷ length (childrenOf p) ∷ [])
 front-long kind p false false true =
     let a : length (kAndN (kOf p) (length (childrenOf p))) ≡ 4 = length-row 2 (kOf p ∷ length (childrenOf p) ∷ []) in
-    let r : length (inRow 4 (keysOf p)) ≡ 4 * length (keysOf p) = length-row 4 (keysOf p) in
+    let r : length (inRow 8 (keysOf p)) ≡ 8 * length (keysOf p) = length-row 8 (keysOf p) in
     let k : length (keysOf p) ≡ length (childrenOf p) = length-map (childrenOf p) numberOf in
-    length-append (kAndN (kOf p) (length (childrenOf p))) (inRow 4 (keysOf p)) ∙ omega arith
+    length-append (kAndN (kOf p) (length (childrenOf p))) (inRow 8 (keysOf p)) ∙ omega arith
 front-long kind p false false false = refl
 
 pub front-length : (pol m : List ℕ) (e : ℕ) → length (frontAt pol m e) ≡ frontLength (nodeAt m e .kind) (countAt pol m e)
@@ -107,14 +107,30 @@ front-length pol m e =
 
 -- ---- a record has few bytes
 
-few-tests : (n : ℕ) (a b c : Bool) → n ≤ 16 → cond a 4 (cond b 4 (cond c (4 + 4 * n) 0)) ≤ 68
-few-tests n true b c h = omega arith
-few-tests n false true c h = omega arith
-few-tests n false false true h = omega arith
-few-tests n false false false h = omega arith
+pub width-eight : (kind : ℕ) → kind ≤ 35 → numberWidth kind ≡ 8
+unfolding numberWidth
+width-eight kind l = rw (le-leb kind 35 l)
 
-pub front-few : (kind n : ℕ) → n ≤ 16 → frontLength kind n ≤ 68
-front-few kind n h = few-tests n (between 34 41 kind) (eqb kind 56) (between 57 58 kind) h
+pub width-four : (kind : ℕ) → 35 < kind → numberWidth kind ≡ 4
+unfolding numberWidth
+width-four kind l = rw (lt-leb kind 35 l)
+
+few-width : (kind : ℕ) → numberWidth kind ≤ 8
+unfolding numberWidth
+few-width kind = by-test (leb kind 35)
+  where
+    by-test : (b : Bool) → cond b 8 4 ≤ 8
+    by-test true = omega arith
+    by-test false = omega arith
+
+few-tests : (w n : ℕ) (a b c : Bool) → w ≤ 8 → n ≤ 16 → cond a w (cond b 4 (cond c (4 + 8 * n) 0)) ≤ 132
+few-tests w n true b c l h = omega arith
+few-tests w n false true c l h = omega arith
+few-tests w n false false true l h = omega arith
+few-tests w n false false false l h = omega arith
+
+pub front-few : (kind n : ℕ) → n ≤ 16 → frontLength kind n ≤ 132
+front-few kind n h = few-tests (numberWidth kind) n (between 34 41 kind) (eqb kind 56) (between 57 58 kind) (few-width kind) h
 
 arity-tests : (n : ℕ) (a b c d : Bool) → n ≤ 16 → cond a 1 (cond b 2 (cond c 3 (cond d n 0))) ≤ 16
 arity-tests n true b c d h = omega arith
@@ -126,23 +142,24 @@ arity-tests n false false false false h = omega arith
 pub arity-few : (kind n : ℕ) → n ≤ 16 → arity kind n ≤ 16
 arity-few kind n h = arity-tests n (between 42 48 kind) (between 49 54 kind) (eqb kind 55) (eqb kind 56) h
 
-small-tests : (a b : Bool) → cond a 4 (cond b 4 0) ≤ 4
-small-tests true b = omega arith
-small-tests false true = omega arith
-small-tests false false = omega arith
+small-tests : (w : ℕ) (a b : Bool) → w ≤ 8 → cond a w (cond b 4 0) ≤ 8
+small-tests w true b l = omega arith
+small-tests w false true l = omega arith
+small-tests w false false l = omega arith
 
 -- a kind that has keys has no children
-pub both-few : (kind n : ℕ) → n ≤ 16 → frontLength kind n + 2 * arity kind n ≤ 68
+pub both-few : (kind n : ℕ) → n ≤ 16 → frontLength kind n + 2 * arity kind n ≤ 132
 both-few kind n h = by-test (ltb 56 kind) refl
   where
-    by-test : (b : Bool) → ltb 56 kind ≡ b → frontLength kind n + 2 * arity kind n ≤ 68
+    by-test : (b : Bool) → ltb 56 kind ≡ b → frontLength kind n + 2 * arity kind n ≤ 132
     by-test true t =
         let none : 0 ≡ arity kind n = arity-above kind n (ltb-true 56 kind t) in
         let f = front-few kind n h in
         omega arith
     by-test false t =
         let a = arity-few kind n h in
-        let f : frontLength kind n ≤ 4 = rw (no-keys (ltb-false 56 kind t)) (small-tests (between 34 41 kind) (eqb kind 56)) in
+        let f : frontLength kind n ≤ 8 =
+        rw (no-keys (ltb-false 56 kind t)) (small-tests (numberWidth kind) (between 34 41 kind) (eqb kind 56) (few-width kind)) in
         omega arith
       where
         no-keys : kind ≤ 56 → between 57 58 kind ≡ false

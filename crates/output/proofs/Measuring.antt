@@ -52,7 +52,7 @@ module _ (pol m : List ℕ) (e front n : ℕ) (good : Good pol) (f : FrontLength
   pub arity-read-few : n ≤ 16
   arity-read-few = omega (arith, arity-is, arity-few (nodeAt m e .kind) (countAt pol m e) (count-few pol m good e))
 
-  pub record-few : 4 + front + 2 * n ≤ 72
+  pub record-few : 4 + front + 2 * n ≤ 136
   record-few =
       omega (arith, arity-is, f .is, front-length pol m e, both-few (nodeAt m e .kind) (countAt pol m e) (count-few pol m good e))
 
@@ -108,7 +108,7 @@ pub record MeasureInv (pol m : List ℕ) (e left n records bytes j : ℕ) : Type
   pub counted : records + counts (childNodes pol m e j (n - j)) ≡ count (nodeOf (treeAt pol m e))
   pub long : bytes + lengthsOf (childNodes pol m e j (n - j)) ≡ lengthOf (nodeOf (treeAt pol m e))
   pub few : records ≤ left
-  pub short : bytes ≤ 72 * records
+  pub short : bytes ≤ 136 * records
 
 pub count-cons : (x : Node) (xs : Nodes) → counts (x ▸ xs) ≡ count x + counts xs
 unfolding count
@@ -128,7 +128,7 @@ pub record Fitted (t : Fragment) (left records bytes : ℕ) : Type 0 where
   pub count : count (nodeOf t) ≡ records
   pub long : lengthOf (nodeOf t) ≡ bytes
   pub few : records ≤ left
-  pub short : bytes ≤ 72 * records
+  pub short : bytes ≤ 136 * records
 
 fitted : {t : Fragment} {left records bytes : ℕ} → Measured t left (Extent.Fits records bytes) → Fitted t left records bytes
 fitted {t} (fits s b f h) = record { count = s; long = sym (length-written 0 (nodeOf t)) ∙ b; few = f; short = h }

@@ -30,7 +30,7 @@ use Rattle.output.proofs.Measuring.{next-child, no-child, child-falls, 
 
 -- ---- k is not 0 where a tree is well formed
 
-no-k : (kind : ℕ) → kind < 57 → {A : Type 0} → 57 ≤ kind → A
+no-k : (kind : ℕ) → kind < 107 → {A : Type 0} → 107 ≤ kind → A
 no-k kind h l = absurd (omega arith)
 
 first-k : (k n : ℕ) (rest : List ℕ) → 1 ≤ k → k ≤ n → n ≤ 16 → 1 ≤ getD (kAndN k n ++ rest) 0 0
@@ -45,8 +45,8 @@ mutual
   pub some-k : (f : Fragment) → WellFormed f → SomeK (nodeOf f)
   some-k False w = (no-k 32 (omega arith), tt)
   some-k True w = (no-k 33 (omega arith), tt)
-  some-k (PkK key) w = (no-k 34 (omega arith), tt)
-  some-k (PkH key) w = (no-k 35 (omega arith), tt)
+  some-k (PkK key) w = (no-k 84 (omega arith), tt)
+  some-k (PkH key) w = (no-k 85 (omega arith), tt)
   some-k (Lock After n) w = (no-k 36 (omega arith), tt)
   some-k (Lock Older n) w = (no-k 37 (omega arith), tt)
   some-k (Hash Sha256 h) w = (no-k 38 (omega arith), tt)
@@ -68,8 +68,8 @@ mutual
   some-k (OrI x y) w = (no-k 54 (omega arith), (some-k x (w .0), (some-k y (w .1), tt)))
   some-k (AndOr x y z) w = (no-k 55 (omega arith), (some-k x (w .0), (some-k y (w .1), (some-k z (w .2), tt))))
   some-k (Thresh k xs) w = (no-k 56 (omega arith), all-some-k xs (w .1))
-  some-k (Multi k keys) w = ((λ l. first-k k (length keys) (inRow 4 keys) (w .0 .0) (w .0 .1) (w .0 .2)), tt)
-  some-k (MultiA k keys) w = ((λ l. first-k k (length keys) (inRow 4 keys) (w .0 .0) (w .0 .1) (w .0 .2)), tt)
+  some-k (Multi k keys) w = ((λ l. first-k k (length keys) (inRow 8 keys) (w .0 .0) (w .0 .1) (w .0 .2)), tt)
+  some-k (MultiA k keys) w = ((λ l. first-k k (length keys) (inRow 8 keys) (w .0 .0) (w .0 .1) (w .0 .2)), tt)
 
   pub all-some-k : (xs : Fragments) → AllWellFormed xs → AllSomeK (nodesOf xs)
   all-some-k end w = tt

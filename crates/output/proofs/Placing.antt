@@ -23,7 +23,7 @@ use Rattle.policies.proofs.Views.{child-is, past-head}
 use Rattle.candidates.specs.declared.Candidate.{Candidate}
 use Rattle.nodes.specs.Words.{nodeAt}
 use Rattle.nodes.specs.Views.{keysOf}
-use Rattle.output.specs.Records.{heldAt, kindAt, fragmentKind, frontOf, frontAt, arityAt, lengthAt, recordAt, childNodes}
+use Rattle.output.specs.Records.{heldAt, kindAt, fragmentKind, numberWidth, frontOf, frontAt, arityAt, lengthAt, recordAt, childNodes}
 use Rattle.output.specs.Answers.{Readable}
 use Rattle.output.specs.Inside.{FrontLength, Keyed, SomeK, Sound}
 use Rattle.output.proofs.Shapes.{shape, in-range, out-below, out-above}
@@ -158,18 +158,18 @@ module _ (pol m : List ℕ) (e : ℕ) (x : Candidate) (h : Head) (is : x ≡ nod
   unfolding frontAt heldAt
   front-is = ap (λ (y : Candidate). frontOf (y .kind) (policyAt pol (y .first))) (sym is)
 
-  pub front-number : 34 ≤ x .kind → x .kind ≤ 41 → frontAt pol m e ≡ bytesOf 4 (h .number)
+  pub front-number : 34 ≤ x .kind → x .kind ≤ 41 → frontAt pol m e ≡ bytesOf (numberWidth (x .kind)) (h .number)
   front-number l u =
-      front-is ∙ rw (in-range 34 41 (x .kind) l u) (ap (λ (y : Head). bytesOf 4 (y .number)) (sym held))
+      front-is ∙ rw (in-range 34 41 (x .kind) l u) (ap (λ (y : Head). bytesOf (numberWidth (x .kind)) (y .number)) (sym held))
 
   pub front-thresh : x .kind ≡ 56 → frontAt pol m e ≡ kAndN (h .k) (h .count)
   front-thresh k = front-is ∙ rw k (ap (λ (y : Head). kAndN (y .k) (y .count)) (sym held))
 
-  pub front-keys : 57 ≤ x .kind → x .kind ≤ 58 → frontAt pol m e ≡ kAndN (h .k) (h .count) ++ inRow 4 (keysOf p)
+  pub front-keys : 57 ≤ x .kind → x .kind ≤ 58 → frontAt pol m e ≡ kAndN (h .k) (h .count) ++ inRow 8 (keysOf p)
   front-keys l u =
       front-is
       ∙ rw (out-above 34 41 (x .kind) (omega arith), ne-eqb (x .kind) 56 (λ k. omega arith), in-range 57 58 (x .kind) l u)
-      (ap (λ (y : Head). kAndN (y .k) (y .count) ++ inRow 4 (keysOf p)) (sym held))
+      (ap (λ (y : Head). kAndN (y .k) (y .count) ++ inRow 8 (keysOf p)) (sym held))
 
   pub front-low : x .kind < 34 → frontAt pol m e ≡ []
   front-low l =
@@ -190,16 +190,16 @@ module _ (pol m : List ℕ) (e : ℕ) (x : Candidate) (h : Head) (is : x ≡ nod
 
   -- the front fits where its bytes do
   module _ (at : ℕ) (out : List ℕ) (fits : at + length (frontAt pol m e) ≤ length out) where
-    pub number-fits : 34 ≤ x .kind → x .kind ≤ 41 → at + 4 ≤ length out
-    number-fits l u = omega (arith, ap length (front-number l u), length-bytes 4 (h .number))
+    pub number-fits : 34 ≤ x .kind → x .kind ≤ 41 → at + numberWidth (x .kind) ≤ length out
+    number-fits l u = omega (arith, ap length (front-number l u), length-bytes (numberWidth (x .kind)) (h .number))
 
     pub thresh-fits : x .kind ≡ 56 → at + 4 ≤ length out
     thresh-fits k = omega (arith, ap length (front-thresh k), k-length)
 
-    pub keys-fit : 57 ≤ x .kind → x .kind ≤ 58 → at + 4 + 4 * h .count ≤ length out
+    pub keys-fit : 57 ≤ x .kind → x .kind ≤ 58 → at + 4 + 8 * h .count ≤ length out
     keys-fit l u =
-        let whole = ap length (front-keys l u) ∙ length-append (kAndN (h .k) (h .count)) (inRow 4 (keysOf p)) in
-        let row : length (inRow 4 (keysOf p)) ≡ 4 * length (keysOf p) = length-row 4 (keysOf p) in
+        let whole = ap length (front-keys l u) ∙ length-append (kAndN (h .k) (h .count)) (inRow 8 (keysOf p)) in
+        let row : length (inRow 8 (keysOf p)) ≡ 8 * length (keysOf p) = length-row 8 (keysOf p) in
         let keys : length (keysOf p) ≡ length (childrenOf p) = length-map (childrenOf p) numberOf in
         let same : h .count ≡ length (childrenOf p) = ap (λ (y : Head). y .count) held in
         omega (arith, whole, k-length)
@@ -214,11 +214,13 @@ module _ (pol m : List ℕ) (e : ℕ) (x : Candidate) (h : Head) (is : x ≡ nod
   unfolding inRow bytesOf
   first-k k n rest = refl
 
-  whole-kind : 57 ≤ x .kind → x .kind ≤ 58 → kindAt m e ≡ x .kind
+  whole-kind : 57 ≤ x .kind → x .kind ≤ 58 → kindAt m e ≡ x .kind + 50
   unfolding kindAt
-  whole-kind l u = ap (λ (y : Candidate). fragmentKind (y .kind)) (sym is) ∙ rw (in-range 32 58 (x .kind) (omega arith) u)
+  whole-kind l u =
+      ap (λ (y : Candidate). fragmentKind (y .kind)) (sym is)
+      ∙ rw (in-range 32 58 (x .kind) (omega arith) u, out-above 34 35 (x .kind) (omega arith), in-range 57 58 (x .kind) l u)
 
-  some-front : (kind : ℕ) (front : List ℕ) (xs : Nodes) → SomeK (node kind front xs) → 57 ≤ kind → 1 ≤ getD front 0 0
+  some-front : (kind : ℕ) (front : List ℕ) (xs : Nodes) → SomeK (node kind front xs) → 107 ≤ kind → 1 ≤ getD front 0 0
   unfolding SomeK
   some-front kind front xs s l = s .0 l
 
@@ -232,7 +234,7 @@ module _ (pol m : List ℕ) (e : ℕ) (x : Candidate) (h : Head) (is : x ≡ nod
           let some =
           some-front (kindAt m e) (frontAt pol m e) (childNodes pol m e 0 (arityAt pol m e))
           (subst SomeK (shape pol (readable .holds) e (readable .there)) sound) (omega (arith, whole-kind l u)) in
-          let first = ap (λ (f : List ℕ). getD f 0 0) (front-keys l u) ∙ first-k (h .k) (h .count) (inRow 4 (keysOf p)) in
+          let first = ap (λ (f : List ℕ). getD f 0 0) (front-keys l u) ∙ first-k (h .k) (h .count) (inRow 8 (keysOf p)) in
           let k : 0 ≡ h .k = ap (λ (y : Head). y .k) (past-head pol (x .first) (ltb-false (x .first) 64 t)) ∙ ap (λ (y : Head). y .k) (sym held) in
           absurd (omega (arith, some, first))
 

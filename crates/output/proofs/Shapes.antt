@@ -24,7 +24,7 @@ use Rattle.nodes.specs.Words.{nodeAt, rowChild}
 use Rattle.nodes.specs.Views.{among, rowAt, Parts, makers, makeBy, partsOf, treeOf, seenAs, firstNodes, seen, keysOf}
 use Rattle.nodes.specs.Answers.{Holds}
 use Rattle.nodes.proofs.Seen.{first-length, first-at, seen-at, seen-false}
-use Rattle.output.specs.Records.{treeAt, heldAt, countAt, fragmentKind, kindAt, frontOf, frontAt, arityAt, namedChild, before, childAt}
+use Rattle.output.specs.Records.{treeAt, heldAt, countAt, fragmentKind, kindAt, numberWidth, frontOf, frontAt, arityAt, namedChild, before, childAt}
 use Rattle.output.specs.Records.{childNodes}
 
 -- ---- kinds in and out of a range
@@ -51,6 +51,27 @@ both-false false = refl
 pub out-above : (low high n : ℕ) → high < n → between low high n ≡ false
 out-above low high n h = rw (lt-leb n high h) (both-false (leb low n))
 
+-- the number that is written for a kind
+module _ (kind : ℕ) where
+  pub kind-first : 32 ≤ kind → kind ≤ 33 → kind ≡ fragmentKind kind
+  kind-first l h = rw (in-range 32 58 kind l (omega arith), out-below 34 35 kind (omega arith), out-below 57 58 kind (omega arith))
+
+  pub kind-key : 34 ≤ kind → kind ≤ 35 → kind + 50 ≡ fragmentKind kind
+  kind-key l h = rw (in-range 32 58 kind (omega arith) (omega arith), in-range 34 35 kind l h)
+
+  pub kind-middle : 36 ≤ kind → kind ≤ 56 → kind ≡ fragmentKind kind
+  kind-middle l h =
+      rw (in-range 32 58 kind (omega arith) (omega arith), out-above 34 35 kind (omega arith), out-below 57 58 kind (omega arith))
+
+  pub kind-keys : 57 ≤ kind → kind ≤ 58 → kind + 50 ≡ fragmentKind kind
+  kind-keys l h = rw (in-range 32 58 kind (omega arith) h, out-above 34 35 kind (omega arith), in-range 57 58 kind l h)
+
+  pub kind-below : kind < 32 → 32 ≡ fragmentKind kind
+  kind-below l = rw (out-below 32 58 kind l)
+
+  pub kind-above : 58 < kind → 32 ≡ fragmentKind kind
+  kind-above l = rw (out-above 32 58 kind l)
+
 -- ---- the record of what a kind makes of its parts
 
 module _ (p : Parts) where
@@ -69,16 +90,16 @@ module _ (p : Parts) where
   Formed kind = nodeOf (makeBy (find kind makers) p) ≡ form kind
 
   module _ (l : length (toList (fragments (p .row))) ≡ length (childrenOf (p .held))) where
-    keyed : (kind : ℕ) → leaf kind (kAndN (kOf (p .held)) (length (keysOf (p .held))) ++ inRow 4 (keysOf (p .held)))
-        ≡ leaf kind (kAndN (kOf (p .held)) (length (childrenOf (p .held))) ++ inRow 4 (keysOf (p .held)))
-    keyed kind = ap (λ (n : ℕ). leaf kind (kAndN (kOf (p .held)) n ++ inRow 4 (keysOf (p .held)))) (length-map (childrenOf (p .held)) numberOf)
+    keyed : (kind : ℕ) → leaf kind (kAndN (kOf (p .held)) (length (keysOf (p .held))) ++ inRow 8 (keysOf (p .held)))
+        ≡ leaf kind (kAndN (kOf (p .held)) (length (childrenOf (p .held))) ++ inRow 8 (keysOf (p .held)))
+    keyed kind = ap (λ (n : ℕ). leaf kind (kAndN (kOf (p .held)) n ++ inRow 8 (keysOf (p .held)))) (length-map (childrenOf (p .held)) numberOf)
 
     formed-55 : Each Formed 55 4
     unfolding find nodeOf kids
-    formed-55 = (refl, (ap (λ (n : ℕ). node 56 (kAndN (kOf (p .held)) n) (nodesOf (fragments (p .row)))) l, (keyed 57, (keyed 58, tt))))
+    formed-55 = (refl, (ap (λ (n : ℕ). node 56 (kAndN (kOf (p .held)) n) (nodesOf (fragments (p .row)))) l, (keyed 107, (keyed 108, tt))))
 
     formed-32 : Each Formed 32 10
-    unfolding find nodeOf kids
+    unfolding find nodeOf kids numberWidth
     formed-32 = (refl, (refl, (refl, (refl, (refl, (refl, (refl, (refl, (refl, (refl, tt))))))))))
 
     formed-42 : Each Formed 42 13

@@ -24,7 +24,7 @@ pub record Readable (pol m : List ℕ) (e : ℕ) : Type 0 where
 
 -- the most bytes that a record has
 abbrev pub maxBytes : ℕ
-maxBytes = 72
+maxBytes = 136
 
 -- a tree has at most so many records, and their bytes are told, or it has more
 pub data Measured (t : Fragment) (left : ℕ) : Extent → Type 0 where

@@ -14,7 +14,7 @@ use Rattle.output.specs.Answers.{Readable, maxBytes}
 
 pub record FrontLength (pol m : List ℕ) (e n : ℕ) : Type 0 where
   pub is : n ≡ length (frontAt pol m e)
-  pub few : n ≤ 68
+  pub few : n ≤ 132
 
 pub record RecordLength (pol m : List ℕ) (e n : ℕ) : Type 0 where
   pub is : n ≡ lengthAt pol m e
@@ -29,7 +29,7 @@ pub record Keyed (pol : List ℕ) (r n : ℕ) : Type 0 where
 -- k is not 0 in the records of Multi and MultiA
 unfoldable mutual
   pub SomeK : Node → Type 0
-  SomeK (node kind front children) = (57 ≤ kind → 1 ≤ getD front 0 0) × AllSomeK children
+  SomeK (node kind front children) = (107 ≤ kind → 1 ≤ getD front 0 0) × AllSomeK children
 
   pub AllSomeK : Nodes → Type 0
   AllSomeK nil = Unit

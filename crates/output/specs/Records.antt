@@ -1,9 +1,9 @@
--- The record that a node of work memory writes: document 01, "Records", over the nodes of crate `nodes` (specs/Views.antt). Its kind, the bytes
+-- The record that a node of work memory writes: document 01, "Records", with keys of 64 bits (document 02, R-3), over the nodes of crate `nodes` (specs/Views.antt). Its kind, the bytes
 -- of its payload before the children, and the numbers of its children. Assumes nothing.
 use mathlib.Core.Bool.{cond}
 use mathlib.Core.List.{List, [], _++_}
 use Prim.Native.Nat.{ℕ, zero, suc, _+_, _*_}
-use lib.Dec.{eqb, ltb}
+use lib.Dec.{eqb, ltb, leb}
 use lib.ListN.{length, take}
 use Rattle.words.specs.Bytes.{bytesOf}
 use Rattle.records.specs.Numbers.{between}
@@ -28,19 +28,27 @@ heldAt pol m e = policyAt pol (nodeAt m e .first)
 abbrev pub countAt : (pol m : List ℕ) → ℕ → ℕ
 countAt pol m e = length (childrenOf (heldAt pol m e))
 
+-- kinds that have keys are written as those of keys of 64 bits, 50 higher
+abbrev pub writtenAs : ℕ → ℕ
+writtenAs kind = cond (between 34 35 kind) (kind + 50) (cond (between 57 58 kind) (kind + 50) kind)
+
 -- a number that is no fragment's kind stands for False
 abbrev pub fragmentKind : ℕ → ℕ
-fragmentKind kind = cond (between 32 58 kind) kind 32
+fragmentKind kind = cond (between 32 58 kind) (writtenAs kind) 32
 
 unfoldable pub kindAt : List ℕ → ℕ → ℕ
 kindAt m e = fragmentKind (nodeAt m e .kind)
 
+-- how many bytes the number of a key, a hash or a lock has
+unfoldable pub numberWidth : (kind : ℕ) → ℕ
+numberWidth kind = cond (leb kind 35) 8 4
+
 -- the payload before the children: a number, or k and n, or k, n and the keys
 abbrev pub frontOf : (kind : ℕ) → Policy → List ℕ
 frontOf kind p =
-    cond (between 34 41 kind) (bytesOf 4 (numberOf p))
+    cond (between 34 41 kind) (bytesOf (numberWidth kind) (numberOf p))
     (cond (eqb kind 56) (kAndN (kOf p) (length (childrenOf p)))
-    (cond (between 57 58 kind) (kAndN (kOf p) (length (childrenOf p)) ++ inRow 4 (keysOf p))
+    (cond (between 57 58 kind) (kAndN (kOf p) (length (childrenOf p)) ++ inRow 8 (keysOf p))
     []))
 
 unfoldable pub frontAt : (pol m : List ℕ) → ℕ → List ℕ
@@ -48,7 +56,7 @@ frontAt pol m e = frontOf (nodeAt m e .kind) (heldAt pol m e)
 
 -- how many bytes these are, where there are n children or keys
 abbrev pub frontLength : (kind n : ℕ) → ℕ
-frontLength kind n = cond (between 34 41 kind) 4 (cond (eqb kind 56) 4 (cond (between 57 58 kind) (4 + 4 * n) 0))
+frontLength kind n = cond (between 34 41 kind) (numberWidth kind) (cond (eqb kind 56) 4 (cond (between 57 58 kind) (4 + 8 * n) 0))
 
 -- how many children a node has
 unfoldable pub arityAt : (pol m : List ℕ) → ℕ → ℕ

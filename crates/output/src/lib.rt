@@ -15,7 +15,7 @@ ghost use Rattle.memory.specs.Layout.{workWords, nodeCount};
 ghost use Rattle.policies.specs.Array.{Good, policyAt};
 ghost use Rattle.nodes.specs.Views.{keysOf};
 ghost use Rattle.nodes.specs.Answers.{Holds};
-ghost use Rattle.output.specs.Records.{treeAt, kindAt, fragmentKind, frontAt, frontLength, arityAt, namedChild, childAt, lengthAt};
+ghost use Rattle.output.specs.Records.{treeAt, kindAt, fragmentKind, numberWidth, frontAt, frontLength, arityAt, namedChild, childAt, lengthAt};
 ghost use Rattle.output.specs.Answers.{Readable, Measured, Wrote};
 ghost use Rattle.output.specs.Inside.{FrontLength, RecordLength, Keyed, Place, Placed, Room, Ended};
 use nodes::node;
@@ -24,6 +24,7 @@ use policies::child;
 use policies::head_of;
 use words::put_u16;
 use words::put_u32;
+use words::put_u64;
 
 // The kind of Thresh.
 const THRESH: u16 = 56;
@@ -49,14 +50,27 @@ struct End {
     records: usize,
 }
 
-// A kind that is no fragment's stands for False.
+// The number of the kind that is written: those with keys are of 64 bits. A kind that is no fragment's stands for False.
 fn fragment_kind(kind: u16) -> u16
     ensures { λ r. ⌜ r ≡ fragmentKind kind ⌝ }
 {
     match kind {
-        32..=58 => kind,
+        32..=33 => kind,
+        34..=35 => kind + 50,
+        36..=56 => kind,
+        57..=58 => kind + 50,
         _ => 32,
     }
+}
+
+// How many bytes the number of a record of a kind has.
+fn number_width(kind: u16) -> usize
+    ensures { λ r. ⌜ r ≡ numberWidth kind ⌝ }
+{
+    if kind <= 35 {
+        return 8;
+    }
+    4
 }
 
 // The kind of the record that node e writes.
@@ -75,8 +89,8 @@ fn front_length(kind: u16, n: usize) -> usize
 {
     match kind {
         56 => 4,
-        34..=41 => 4,
-        57..=58 => 4 + 4 * n,
+        34..=41 => number_width(kind),
+        57..=58 => 4 + 8 * n,
         _ => 0,
     }
 }
@@ -183,6 +197,26 @@ fn put_4(out: &mut [u8], at: usize, v: u64)
     put_u32(out, at, (v % 0x1_0000_0000) as u32);
 }
 
+// Writes a u64 at a place.
+fn put_8(out: &mut [u8], at: usize, v: u64)
+    requires { ⌜ at + 8 ≤ length (now out) ⌝ }
+    ensures { λ _. ⌜ now (out .exit) ≡ sets (now (out .entry)) at (bytesOf 8 v) ⌝ }
+{
+    put_u64(out, at, v);
+}
+
+// Writes the number of a record of a kind at a place.
+fn put_number(out: &mut [u8], at: usize, kind: u16, v: u64)
+    requires { ⌜ at + numberWidth kind ≤ length (now out) ⌝ }
+    ensures { λ _. ⌜ now (out .exit) ≡ sets (now (out .entry)) at (bytesOf (numberWidth kind) v) ⌝ }
+{
+    if kind <= 35 {
+        put_8(out, at, v);
+        return;
+    }
+    put_4(out, at, v);
+}
+
 // Writes k and n at a place.
 fn put_k_and_n(out: &mut [u8], at: usize, k: u64, n: usize)
     requires { ⌜ (at + 4 ≤ length (now out)) × (n ≤ 16) ⌝ }
@@ -194,14 +228,14 @@ fn put_k_and_n(out: &mut [u8], at: usize, k: u64, n: usize)
 
 // Writes the numbers of the n children of record r of the policy, from a place on.
 fn put_keys(pol: &[u64], r: usize, n: usize, out: &mut [u8], at: usize)
-    requires { ⌜ Keyed (now pol) r n × (at + 4 * n ≤ length (now out)) ⌝ }
-    ensures { λ _. ⌜ now (out .exit) ≡ sets (now (out .entry)) at (inRow 4 (keysOf (policyAt (now (pol .entry)) r))) ⌝ }
+    requires { ⌜ Keyed (now pol) r n × (at + 8 * n ≤ length (now out)) ⌝ }
+    ensures { λ _. ⌜ now (out .exit) ≡ sets (now (out .entry)) at (inRow 8 (keysOf (policyAt (now (pol .entry)) r))) ⌝ }
 {
     let mut j = 0;
     while j < n {
         let c = child(pol, r, j);
         let head = head_of(pol, c);
-        put_4(out, at + 4 * j, head.number);
+        put_8(out, at + 8 * j, head.number);
         j += 1;
     }
 }
@@ -217,7 +251,7 @@ fn put_front(pol: &[u64], work: &[u64], e: u16, out: &mut [u8], at: usize)
     let kind = x.kind;
     match kind {
         34..=41 => {
-            put_4(out, at, head.number);
+            put_number(out, at, kind, head.number);
         }
         56..=56 => {
             put_k_and_n(out, at, head.k, head.count);

@@ -5,7 +5,8 @@ use Prim.Native.Nat.{ℕ}
 use Rattle.words.specs.Bytes.{little, leAt}
 use Rattle.records.specs.Numbers.{u16s}
 use Rattle.records.specs.Shapes.{lookUp, shapeOf}
-use Rattle.records.specs.Payloads.{payloadOf}
+use Rattle.records.specs.Payloads.{width, payloadOf}
+use Rattle.records.specs.RecordForm.{kindOf}
 use Rattle.policies.specs.Policy.{Policy, end, _▹_, Key, And, Or, Thresh, fromList, depth, deepest}
 use Rattle.policies.specs.Forms.{made}
 use Rattle.policies.specs.Reading.{Answer, refused, done, without, readWhole, readRecord, rootOf, finish, readFrom, readPolicy}
@@ -40,7 +41,7 @@ pub record Examples : Type 0 where
   pub no-weight : readPolicy (key7 ++ key8 ++ either 1 0) ≡ refused 4
 
 pub examples : Examples
-unfolding little leAt u16s lookUp shapeOf payloadOf readPolicy readFrom readRecord readWhole without rootOf finish made fromList depth deepest
+unfolding little leAt u16s lookUp shapeOf kindOf width payloadOf readPolicy readFrom readRecord readWhole without rootOf finish made fromList depth deepest
 examples =
     record {
       whole-case = refl;

@@ -306,7 +306,7 @@ fn put_row(pol: &mut [u64], i: usize, kind: u16, parts: Parts)
     requires { ⌜ (length (now pol) ≡ arrayWords) × (i < maxRecords) ⌝ }
     ensures { λ _. ⌜ now (pol .exit) ≡ putRow (now (pol .entry)) i kind parts ⌝ }
 {
-    let number = parts.number as u64;
+    let number = parts.number;
     let k = parts.k as u64;
     let n = parts.count as u64;
     let left_weight = parts.left_weight as u64;

@@ -11,9 +11,9 @@ use lib.ListN.{length, take, replicate}
 use lib.Seq.{take-append-seam}
 use Rattle.records.specs.declared.Shape.{Shape}
 use Rattle.records.specs.declared.Shape.the-variants as Shape
-use Rattle.records.specs.Numbers.{u16, u16s, u32s, maxCount}
+use Rattle.records.specs.Numbers.{u16, u16s, maxCount}
 use Rattle.records.specs.Shapes.{rows, arity}
-use Rattle.records.specs.Payloads.{Payload, nothing, number, children, weighted, threshold, keys, payloadOf, countOf, childrenOf}
+use Rattle.records.specs.Payloads.{Payload, nothing, number, children, weighted, threshold, keys, payloadOf, countOf, childrenOf, keysIn}
 use Rattle.records.specs.RecordForm.{kindOf, fragmentPayload}
 use Rattle.records.specs.declared.Parts.{Parts}
 use Rattle.records.specs.Answers.{padded, partsOf}
@@ -88,7 +88,7 @@ module _ (s : List ℕ) (p : Payload) (e : fragmentPayload s ≡ some p) where
   of-keys h t =
       let is = is-keys s t in
       let few = keys-bounds s (t ∙ ap some is) .2 in
-      let q = keys (u16 s 4) (u32s s 8 (u16 s 6)) in
+      let q = keys (u16 s 4) (keysIn s) in
       as-is q is first-kind last-kind (omega (arith, few)) (sym (arity-above (kindOf s) (countOf q) h))
 
   -- the kinds of document 01, range by range

@@ -19,7 +19,7 @@ and-right true b e = e
 and-right false b e = cc
 
 -- as many numbers as a threshold may have take few bytes
-pub few-bytes : (width n : ℕ) → width ≤ 4 → n ≤ maxCount → width * n ≤ 64
+pub few-bytes : (width n : ℕ) → width ≤ 8 → n ≤ maxCount → width * n ≤ 128
 few-bytes width n w m = mul-le-mul w m
 
 module _ (width : ℕ) (s : List ℕ) where

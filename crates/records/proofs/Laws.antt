@@ -8,10 +8,10 @@ use native.Mathlib.Omega.{arith}
 use borrow.Author.Tests.{leb-true, le-leb, lt-leb}
 use lib.Dec.{leb, eqb}
 use lib.ListN.{length, getD, drop, replicate, length-append, length-drop, length-replicate, List·getD-append}
-use Rattle.records.specs.Numbers.{u16, u32, u16s, u32s, between, maxLock, maxCount}
+use Rattle.records.specs.Numbers.{u16, u32, u16s, numbersAt, between, maxLock, maxCount}
 use Rattle.records.specs.Shapes.{shapeOf, isPolicyKind, isFragmentKind}
 use Rattle.records.specs.Payloads.{Payload, nothing, number, children, weighted, threshold, keys}
-use Rattle.records.specs.Payloads.{keyAt, firstKeys, keysFrom, when, thresholdFits, payloadOf, childrenOf}
+use Rattle.records.specs.Payloads.{width, numberIn, keyAt, firstKeys, keysFrom, keysIn, when, thresholdFits, payloadOf, childrenOf}
 use Rattle.records.specs.RecordForm.{whenWhole, recordLength, kindOf, payloadAs, onlyIf}
 use Rattle.records.specs.RecordForm.{recordPayload, policyPayload, fragmentPayload}
 use Rattle.records.specs.Answers.{lengthAnswer, shapeAnswer, padded, partsOf}
@@ -21,8 +21,9 @@ use Rattle.records.specs.declared.KindShape.{KindShape}
 use Rattle.records.specs.declared.KindShape.the-variants as KindShape
 use Rattle.records.specs.declared.RecordLength.{RecordLength}
 use Rattle.records.specs.declared.RecordLength.the-variants as RecordLength
-use Rattle.records.proofs.Numbers.{u16-drop, length-u16s, length-u32s}
+use Rattle.records.proofs.Numbers.{u16-drop, length-u16s, length-numbers}
 use Rattle.records.proofs.Forms.{and-left, and-right, fits-bounds}
+use Rattle.records.proofs.Widths.{first-place, next-place}
 
 -- ---- the whole length
 
@@ -137,13 +138,13 @@ module _ (s : List ℕ) {p : Payload} where
   unfolding payloadOf
   is-nothing e = when-is (eqb (length s) 4) nothing e
 
-  pub is-number : payloadOf Shape.Number s ≡ some p → p ≡ number (u32 s 4)
+  pub is-number : payloadOf Shape.Number s ≡ some p → p ≡ number (numberIn s)
   unfolding payloadOf
-  is-number e = when-is (eqb (length s) 8) (number (u32 s 4)) e
+  is-number e = when-is (eqb (length s) (4 + width s)) (number (numberIn s)) e
 
-  pub is-lock : payloadOf Shape.Lock s ≡ some p → p ≡ number (u32 s 4)
+  pub is-lock : payloadOf Shape.Lock s ≡ some p → p ≡ number (numberIn s)
   unfolding payloadOf
-  is-lock e = when-is (eqb (length s) 8 && between 1 maxLock (u32 s 4)) (number (u32 s 4)) e
+  is-lock e = when-is (eqb (length s) 8 && between 1 maxLock (numberIn s)) (number (numberIn s)) e
 
   pub is-one-child : payloadOf Shape.OneChild s ≡ some p → p ≡ children (u16 s 4 ∷ [])
   unfolding payloadOf u16s
@@ -165,18 +166,18 @@ module _ (s : List ℕ) {p : Payload} where
   unfolding payloadOf
   is-threshold e = when-is (thresholdFits 2 s) (threshold (u16 s 4) (u16s s 8 (u16 s 6))) e
 
-  pub is-keys : payloadOf Shape.Keys s ≡ some p → p ≡ keys (u16 s 4) (u32s s 8 (u16 s 6))
+  pub is-keys : payloadOf Shape.Keys s ≡ some p → p ≡ keys (u16 s 4) (keysIn s)
   unfolding payloadOf
-  is-keys e = when-is (thresholdFits 4 s) (keys (u16 s 4) (u32s s 8 (u16 s 6))) e
+  is-keys e = when-is (thresholdFits (width s) s) (keys (u16 s 4) (keysIn s)) e
 
 -- a lock's number, a threshold's k and n
 
 pub lock-bounds : (s : List ℕ) {n : ℕ} → payloadOf Shape.Lock s ≡ some (number n) → (1 ≤ n) × (n ≤ maxLock)
 unfolding payloadOf
 lock-bounds s {n} e =
-    let same : n ≡ u32 s 4 = cc (is-lock s e) in
-    rw same (between-bounds 1 maxLock (u32 s 4) (and-right (eqb (length s) 8) (between 1 maxLock (u32 s 4))
-    (when-true (eqb (length s) 8 && between 1 maxLock (u32 s 4)) (number (u32 s 4)) e)))
+    let same : n ≡ numberIn s = cc (is-lock s e) in
+    rw same (between-bounds 1 maxLock (numberIn s) (and-right (eqb (length s) 8) (between 1 maxLock (numberIn s))
+    (when-true (eqb (length s) 8 && between 1 maxLock (numberIn s)) (number (numberIn s)) e)))
 
 pub threshold-bounds : (s : List ℕ) {k : ℕ} {cs : List ℕ} → payloadOf Shape.Threshold s ≡ some (threshold k cs)
     → (1 ≤ k) × (k ≤ length cs) × (length cs ≤ maxCount)
@@ -193,8 +194,8 @@ unfolding payloadOf
 keys-bounds s {k} {ks} e =
     let is = is-keys s e in
     let sameK : k ≡ u16 s 4 = cc is in
-    let sameN : length ks ≡ u16 s 6 = (let l : ks ≡ u32s s 8 (u16 s 6) = cc is in ap length l) ∙ length-u32s s 8 (u16 s 6) in
-    rw (sameK, sameN) (fits-bounds 4 s (when-true (thresholdFits 4 s) (keys (u16 s 4) (u32s s 8 (u16 s 6))) e))
+    let sameN : length ks ≡ u16 s 6 = (let l : ks ≡ keysIn s = cc is in ap length l) ∙ length-numbers (width s) s 8 (u16 s 6) in
+    rw (sameK, sameN) (fits-bounds (width s) s (when-true (thresholdFits (width s) s) (keys (u16 s 4) (keysIn s)) e))
 
 -- never more children than places for them
 pub children-few : (shape : Shape) (s : List ℕ) {p : Payload} → payloadOf shape s ≡ some p → length (childrenOf p) ≤ maxCount
@@ -216,24 +217,22 @@ module _ (s : List ℕ) (n : ℕ) where
   pub keys-first : keysFrom s n 0 ≡ firstKeys s n
   keys-first =
       let e : n - 0 ≡ n = omega arith in
-      let at : 8 + 4 * 0 ≡ 8 = omega arith in
-      rw (e, at)
+      rw (e, first-place (width s))
 
   pub keys-next : (j : ℕ) → j < n → keysFrom s n j ≡ keyAt s j ∷ keysFrom s n (j + 1)
-  unfolding u32s
+  unfolding numbersAt
   keys-next j h =
       let e : n - j ≡ suc (n - (j + 1)) = omega arith in
-      let at : 8 + 4 * (j + 1) ≡ 8 + 4 * j + 4 = omega arith in
-      rw (e, at)
+      rw (e, next-place (width s) j)
 
   pub keys-end : (j : ℕ) → n ≤ j → keysFrom s n j ≡ []
-  unfolding u32s
+  unfolding numbersAt
   keys-end j h =
       let e : n - j ≡ 0 = omega arith in
       rw e
 
   pub length-keys : length (firstKeys s n) ≡ n
-  length-keys = length-u32s s 8 n
+  length-keys = length-numbers (width s) s 8 n
 
 -- ---- the sixteen places
 

@@ -12,7 +12,7 @@ use lib.ListN.{length, set, drop, replicate, length-append, length-drop}
 use lib.Seq.{set-append-seam, append-snoc}
 use Rattle.words.specs.Bytes.{leAt}
 use Rattle.words.proofs.Bytes.{read-room}
-use Rattle.records.specs.Numbers.{orZero, u16, u16s, u32s}
+use Rattle.records.specs.Numbers.{orZero, u16, u16s, numbersAt}
 use Rattle.records.specs.Answers.{padded}
 
 -- ---- where a number is read
@@ -44,10 +44,10 @@ unfolding u16s
 length-u16s s at zero = refl
 length-u16s s at (suc n) = ap suc (length-u16s s (at + 2) n)
 
-pub length-u32s : (s : List ℕ) (at n : ℕ) → length (u32s s at n) ≡ n
-unfolding u32s
-length-u32s s at zero = refl
-length-u32s s at (suc n) = ap suc (length-u32s s (at + 4) n)
+pub length-numbers : (width : ℕ) (s : List ℕ) (at n : ℕ) → length (numbersAt width s at n) ≡ n
+unfolding numbersAt
+length-numbers width s at zero = refl
+length-numbers width s at (suc n) = ap suc (length-numbers width s (at + width) n)
 
 -- one more at the end
 u16s-snoc : (s : List ℕ) (at n : ℕ) → u16s s at (suc n) ≡ u16s s at n ++ (u16 s (at + 2 * n) ∷ [])

@@ -1,12 +1,14 @@
--- What a record's payload says, and when it is of its shape: document 01, "Records", the paragraph on payloads.
+-- What a record's payload says, and when it is of its shape: document 01, "Records", the paragraph on payloads; keys of 64 bits: document
+-- 02, R-3.
 -- A payload begins at byte 4 of its record, after the whole length and the kind. Assumes nothing.
-use mathlib.Core.Bool.{Bool, true, false, _&&_}
+use mathlib.Core.Bool.{Bool, true, false, cond, _&&_}
 use mathlib.Core.List.{List, [], _∷_}
 use mathlib.Core.Option.{Option, none, some}
 use Prim.Native.Nat.{ℕ, _+_, _*_, _-_}
 use lib.Dec.{eqb, leb}
 use lib.ListN.{length}
-use Rattle.records.specs.Numbers.{u16, u32, u16s, u32s, between, maxLock, maxCount}
+use Rattle.records.specs.Numbers.{numberAt, u16, u32, u16s, numbersAt, between, maxLock, maxCount}
+use Rattle.records.specs.Shapes.{isLong}
 use Rattle.records.specs.declared.Shape.{Shape}
 use Rattle.records.specs.declared.Shape.the-variants as Shape
 
@@ -20,9 +22,17 @@ pub data Payload : Type 0 where
 
 -- ---- where the parts stand in the bytes of a whole record
 
--- the number of a key, a hash or a lock
+-- the kind's number as it is written
+abbrev pub writtenKind : List ℕ → ℕ
+writtenKind s = u16 s 2
+
+-- how many bytes the number of a key, a hash or a lock has
+unfoldable pub width : List ℕ → ℕ
+width s = cond (isLong (writtenKind s)) 8 4
+
+-- that number
 abbrev pub numberIn : List ℕ → ℕ
-numberIn s = u32 s 4
+numberIn s = numberAt (width s) s 4
 
 -- a threshold's k and n
 abbrev pub kIn : List ℕ → ℕ
@@ -33,14 +43,14 @@ countIn s = u16 s 6
 
 -- key number j of a Multi or a MultiA, counted from 0
 abbrev pub keyAt : List ℕ → (j : ℕ) → ℕ
-keyAt s j = u32 s (8 + 4 * j)
+keyAt s j = numberAt (width s) s (8 + width s * j)
 
 -- its first n keys, those of them from number j on, and all of its keys
 abbrev pub firstKeys : List ℕ → (n : ℕ) → List ℕ
-firstKeys s n = u32s s 8 n
+firstKeys s n = numbersAt (width s) s 8 n
 
 abbrev pub keysFrom : List ℕ → (n j : ℕ) → List ℕ
-keysFrom s n j = u32s s (8 + 4 * j) (n - j)
+keysFrom s n j = numbersAt (width s) s (8 + width s * j) (n - j)
 
 abbrev pub keysIn : List ℕ → List ℕ
 keysIn s = firstKeys s (countIn s)
@@ -62,11 +72,11 @@ childrenPayload count s = when (eqb (length s) (4 + 2 * count)) (children (u16s 
 -- the payload of a whole record, if it is of the shape
 unfoldable pub payloadOf : Shape → List ℕ → Option Payload
 payloadOf Shape.Nothing s = when (eqb (length s) 4) nothing
-payloadOf Shape.Number s = when (eqb (length s) 8) (number (numberIn s))
+payloadOf Shape.Number s = when (eqb (length s) (4 + width s)) (number (numberIn s))
 payloadOf Shape.Lock s = when (eqb (length s) 8 && between 1 maxLock (numberIn s)) (number (numberIn s))
 payloadOf Shape.Weighted s = when (eqb (length s) 16) (weighted (u16 s 4) (u16 s 6) (u32 s 8) (u32 s 12))
 payloadOf Shape.Threshold s = when (thresholdFits 2 s) (threshold (kIn s) (u16s s 8 (countIn s)))
-payloadOf Shape.Keys s = when (thresholdFits 4 s) (keys (kIn s) (keysIn s))
+payloadOf Shape.Keys s = when (thresholdFits (width s) s) (keys (kIn s) (keysIn s))
 payloadOf Shape.OneChild s = childrenPayload 1 s
 payloadOf Shape.TwoChildren s = childrenPayload 2 s
 payloadOf Shape.ThreeChildren s = childrenPayload 3 s

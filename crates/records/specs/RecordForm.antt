@@ -5,8 +5,8 @@ use mathlib.Core.Option.{Option, none, some}
 use Prim.Native.Nat.{ℕ}
 use lib.ListN.{length}
 use Rattle.records.specs.Numbers.{u16, between}
-use Rattle.records.specs.Shapes.{shapeOf, isPolicyKind, isFragmentKind}
-use Rattle.records.specs.Payloads.{Payload, payloadOf}
+use Rattle.records.specs.Shapes.{meant, shapeOf, isPolicyKind, isFragmentKind}
+use Rattle.records.specs.Payloads.{Payload, writtenKind, payloadOf}
 use Rattle.records.specs.declared.Shape.{Shape}
 
 abbrev pub whenWhole : Bool → ℕ → Option ℕ
@@ -19,8 +19,9 @@ recordLength s = whenWhole (between 4 (length s) (u16 s 0)) (u16 s 0)
 
 -- ---- of the bytes of one whole record
 
-abbrev pub kindOf : List ℕ → ℕ
-kindOf s = u16 s 2
+-- the kind, 19 being 3 and so on: what differs is the width of key numbers
+unfoldable pub kindOf : List ℕ → ℕ
+kindOf s = meant (writtenKind s)
 
 abbrev pub payloadAs : Option Shape → List ℕ → Option Payload
 payloadAs (some shape) s = payloadOf shape s

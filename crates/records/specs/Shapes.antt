@@ -1,9 +1,9 @@
--- Which kinds there are and what payload each has: document 01, "Records", its lists of kinds and its paragraph on payloads.
--- Assumes nothing.
-use mathlib.Core.Bool.{Bool, true, false, cond}
+-- Which kinds there are and what payload each has: document 01, "Records", its lists of kinds and its paragraph on payloads; the kinds of
+-- keys of 64 bits: document 02, R-3. Assumes nothing.
+use mathlib.Core.Bool.{Bool, true, false, cond, _||_}
 use mathlib.Core.List.{List, [], _∷_}
 use mathlib.Core.Option.{Option, none, some}
-use Prim.Native.Nat.{ℕ}
+use Prim.Native.Nat.{ℕ, _-_}
 use lib.Dec.{eqb}
 use Rattle.records.specs.Numbers.{between}
 use Rattle.records.specs.declared.Shape.{Shape}
@@ -45,6 +45,17 @@ lookUp (kinds first last shape ∷ others) kind = thisOr (between first last kin
 -- the shape of a kind's payload; a number that is no kind has none
 unfoldable pub shapeOf : ℕ → Option Shape
 shapeOf kind = lookUp rows kind
+
+-- ---- kinds of keys of 64 bits: a Key, and a PkK, a PkH, a Multi and a MultiA 50 higher than those of document 01
+
+abbrev pub isLong : ℕ → Bool
+isLong kind = eqb kind 19 || (between 84 85 kind || between 107 108 kind)
+
+-- the kind of document 01 that a number stands for: a key is a number, whatever its width
+abbrev pub meant : ℕ → ℕ
+meant kind = cond (eqb kind 19) 3 (cond (between 84 85 kind || between 107 108 kind) (kind - 50) kind)
+
+-- ----
 
 -- policies and fragment trees have kinds of their own
 abbrev pub isPolicyKind : ℕ → Bool

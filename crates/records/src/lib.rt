@@ -6,19 +6,20 @@
 // A `bytes` that a function takes is the bytes of one whole record.
 ghost use mathlib.Core.Path.{_≡_};
 ghost use mathlib.Core.Option.{none, some};
-ghost use Prim.Native.Nat.{_≤_};
+ghost use Prim.Native.Nat.{_≤_, _<_};
 ghost use lib.ListN.{drop};
-ghost use Rattle.records.specs.Numbers.{u16, u32, u16s, maxCount};
-ghost use Rattle.records.specs.Shapes.{shapeOf, isPolicyKind, isFragmentKind, arity};
+ghost use Rattle.records.specs.Numbers.{numberAt, u16, u32, u64, u16s, maxCount};
+ghost use Rattle.records.specs.Shapes.{isLong, meant, shapeOf, isPolicyKind, isFragmentKind, arity};
 ghost use Rattle.records.specs.Payloads as Payload;
-ghost use Rattle.records.specs.Payloads.{payloadOf, childrenPayload, thresholdFits, numberIn, kIn, countIn, keyAt};
+ghost use Rattle.records.specs.Payloads.{payloadOf, childrenPayload, thresholdFits, writtenKind, width, numberIn, kIn, countIn, keyAt};
 ghost use Rattle.records.specs.RecordForm.{recordLength, kindOf, recordPayload, policyPayload, fragmentPayload};
 ghost use Rattle.records.specs.Answers.{lengthAnswer, shapeAnswer, padded, partsOf};
 use words::Read16;
 use words::Read32;
+use words::Read64;
 
 // The largest number that a lock holds.
-const MAX_LOCK: u32 = 2147483647;
+const MAX_LOCK: u64 = 2147483647;
 
 // The most children or keys that a threshold has.
 const MAX_COUNT: u16 = 16;
@@ -52,7 +53,7 @@ pub enum RecordLength {
 // `count` is the number of children or keys, and `children` has zeros past the children; keys stay in the record.
 pub struct Parts {
     pub fits: bool,
-    pub number: u32,
+    pub number: u64,
     pub k: u16,
     pub count: usize,
     pub children: [u16; 16],
@@ -80,6 +81,16 @@ pub fn u32_or_zero(s: &[u8], at: usize) -> u32
     }
 }
 
+// The u64 at `at`, 0 where its bytes are not there.
+pub fn u64_or_zero(s: &[u8], at: usize) -> u64
+    ensures { λ r. ⌜ r ≡ u64 (now (s .entry)) at ⌝ }
+{
+    match words::u64_at(s, at) {
+        Read64::Found(v) => v,
+        Read64::Missing => 0,
+    }
+}
+
 // The whole length of the record that begins at `at`.
 pub fn length_at(s: &[u8], at: usize) -> RecordLength
     ensures { λ r. ⌜ r ≡ lengthAnswer (recordLength (drop at (now (s .entry)))) ⌝ }
@@ -94,11 +105,69 @@ pub fn length_at(s: &[u8], at: usize) -> RecordLength
     RecordLength::Whole(whole)
 }
 
-// The kind of a record.
+// The kind's number as it is written in a record.
+pub fn written_kind(bytes: &[u8]) -> u16
+    ensures { λ r. ⌜ r ≡ writtenKind (now (bytes .entry)) ⌝ }
+{
+    u16_or_zero(bytes, 2)
+}
+
+// Whether a number is a kind of keys of 64 bits.
+fn is_long(kind: u16) -> bool
+    ensures { λ r. ⌜ r ≡ isLong kind ⌝ }
+{
+    match kind {
+        // Key.
+        19 => true,
+        // PkK, PkH.
+        84..=85 => true,
+        // Multi, MultiA.
+        107..=108 => true,
+        _ => false,
+    }
+}
+
+// The kind of document 01 that a number stands for.
+fn meant(kind: u16) -> u16
+    ensures { λ r. ⌜ r ≡ meant kind ⌝ }
+{
+    match kind {
+        // Key.
+        19 => 3,
+        // PkK, PkH.
+        84..=85 => kind - 50,
+        // Multi, MultiA.
+        107..=108 => kind - 50,
+        _ => kind,
+    }
+}
+
+// The kind of a record, of document 01's: keys of 64 bits have the kinds of the others.
 pub fn kind_of(bytes: &[u8]) -> u16
     ensures { λ r. ⌜ r ≡ kindOf (now (bytes .entry)) ⌝ }
 {
-    u16_or_zero(bytes, 2)
+    meant(written_kind(bytes))
+}
+
+// How many bytes the number of a key, a hash or a lock has in a record.
+fn width_of(bytes: &[u8]) -> usize
+    ensures { λ r. ⌜ r ≡ width (now (bytes .entry)) ⌝ }
+{
+    if is_long(written_kind(bytes)) {
+        return 8;
+    }
+    4
+}
+
+// The number of a key, a hash or a lock that begins at `at` in a record; 0 where its bytes are not there. Four bytes hold no more than a u32.
+fn number_at(bytes: &[u8], at: usize) -> u64
+    ensures { λ r. ⌜ r ≡ numberAt (width (now (bytes .entry))) (now (bytes .entry)) at ⌝ }
+    ensures { λ r. ⌜ (width (now (bytes .entry)) ≡ 4 → r < 4294967296) ⌝ }
+{
+    if is_long(written_kind(bytes)) {
+        return u64_or_zero(bytes, at);
+    }
+    u32_or_zero(bytes, at) as u64
 }
 
 // The shape of a kind's payload.
@@ -170,10 +239,11 @@ pub fn arity(kind: u16, count: usize) -> usize
 }
 
 // The number of a record of a key, a hash or a lock; 0 where its bytes are not there.
-pub fn number_of(bytes: &[u8]) -> u32
+pub fn number_of(bytes: &[u8]) -> u64
     ensures { λ r. ⌜ r ≡ numberIn (now (bytes .entry)) ⌝ }
+    ensures { λ r. ⌜ (width (now (bytes .entry)) ≡ 4 → r < 4294967296) ⌝ }
 {
-    u32_or_zero(bytes, 4)
+    number_at(bytes, 4)
 }
 
 // The k of a record of a threshold; 0 where its bytes are not there.
@@ -191,10 +261,11 @@ pub fn count_of(bytes: &[u8]) -> u16
 }
 
 // Key number j of a record of a Multi or a MultiA; 0 where its bytes are not there.
-pub fn key_at(bytes: &[u8], j: u16) -> u32
+pub fn key_at(bytes: &[u8], j: u16) -> u64
     ensures { λ r. ⌜ r ≡ keyAt (now (bytes .entry)) j ⌝ }
 {
-    u32_or_zero(bytes, 8 + 4 * (j as usize))
+    let at = 8 + width_of(bytes) * (j as usize);
+    number_at(bytes, at)
 }
 
 // The answer for a record that is not of the form.
@@ -255,9 +326,9 @@ fn nothing(bytes: &[u8]) -> Parts
 fn number(bytes: &[u8]) -> Parts
     ensures { λ r. ⌜ r ≡ partsOf (payloadOf Shape.Number (now (bytes .entry))) ⌝ }
 {
-    if bytes.len() == 8 {
+    if bytes.len() == 4 + width_of(bytes) {
         let mut parts = fitting();
-        parts.number = u32_or_zero(bytes, 4);
+        parts.number = number_of(bytes);
         return parts;
     }
     unfit()
@@ -268,7 +339,7 @@ fn lock(bytes: &[u8]) -> Parts
     ensures { λ r. ⌜ r ≡ partsOf (payloadOf Shape.Lock (now (bytes .entry))) ⌝ }
 {
     if bytes.len() == 8 {
-        let number = u32_or_zero(bytes, 4);
+        let number = number_of(bytes);
         if number < 1 {
             return unfit();
         }
@@ -315,7 +386,7 @@ fn weighted(bytes: &[u8]) -> Parts
 
 // Whether a record is k, n and then n numbers of `width` bytes, with 1 ≤ k ≤ n ≤ 16.
 fn threshold_fits(bytes: &[u8], width: usize) -> bool
-    requires { ⌜ width ≤ 4 ⌝ }
+    requires { ⌜ width ≤ 8 ⌝ }
     ensures { λ r. ⌜ r ≡ thresholdFits width (now (bytes .entry)) ⌝ }
 {
     let k = u16_or_zero(bytes, 4);
@@ -352,7 +423,7 @@ fn threshold(bytes: &[u8]) -> Parts
 fn keys(bytes: &[u8]) -> Parts
     ensures { λ r. ⌜ r ≡ partsOf (payloadOf Shape.Keys (now (bytes .entry))) ⌝ }
 {
-    if threshold_fits(bytes, 4) {
+    if threshold_fits(bytes, width_of(bytes)) {
         let mut parts = fitting();
         parts.k = u16_or_zero(bytes, 4);
         parts.count = u16_or_zero(bytes, 6) as usize;

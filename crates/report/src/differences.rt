@@ -23,7 +23,7 @@ fn record_start(tree: &[u8], i: usize) -> usize
 }
 
 // Writes record i of a tree.
-fn say_record_at(tree: &[u8], i: usize) -> bool {
+pub fn say_record_at(tree: &[u8], i: usize) -> bool {
     let start = record_start(tree, i);
     let end = walk::record_end(tree, start);
     crate::say_record(i, &tree[start..end])

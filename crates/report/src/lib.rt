@@ -1,5 +1,5 @@
-// The answers of the entries as lines of standard output. What is not public answers whether all of its text was written; where not, the public
-// functions say so on standard error.
+// The answers of the entries as lines of standard output. What says something answers whether all of its text was written; where not, what shows an
+// answer says so on standard error.
 //
 // Every function is safe and ends. No contract can say what is written to a descriptor.
 use libc::STDOUT_FILENO;
@@ -26,31 +26,31 @@ pub enum Side {
 }
 
 // Writes a text.
-fn say(text: &[u8]) -> bool {
+pub fn say(text: &[u8]) -> bool {
     io::write_all(STDOUT_FILENO, text)
 }
 
 // Writes a space and a number.
-fn say_number(n: u64) -> bool {
+pub fn say_number(n: u64) -> bool {
     let spaced = say(b" ");
     io::print_decimal(STDOUT_FILENO, n) & spaced
 }
 
 // Writes a word and a number as a line.
-fn say_line(word: &[u8], n: u64) -> bool {
+pub fn say_line(word: &[u8], n: u64) -> bool {
     let said = say(word);
     let numbered = say_number(n);
     say(b"\n") & said & numbered
 }
 
 // Writes what stands in the places of a row.
-fn say_places(places: &mut [u8]) -> bool {
+pub fn say_places(places: &mut [u8]) -> bool {
     let n = close_up(places);
     say(&places[..n])
 }
 
 // The line of an answer: document 01's number and its name.
-fn show_number(number: u32) -> bool {
+pub fn show_number(number: u32) -> bool {
     let mut name = answer_name(number);
     let numbered = io::print_decimal(STDOUT_FILENO, number as u64);
     let spaced = say(b" ");
@@ -82,7 +82,22 @@ fn show_meaning(number: u32) -> bool {
         ),
         16 => say(b"the tree has more than 4096 records\n"),
         17 => say(b"a number of the tree has no whole entry in its table\n"),
+        18 => say(b"a key's number is over 4294967295, more than the old form holds\n"),
         19 => say(b"the tree is more than 128 high\n"),
+        _ => show_later_meaning(number),
+    }
+}
+
+// The same of a number from 20 on.
+fn show_later_meaning(number: u32) -> bool {
+    match number {
+        20 => say(b"the index is not the one that is built for the tree\n"),
+        21 => say(b"policy and tree have more than 12 keys, hashes and locks together\n"),
+        22 => say(b"the tree is not of base B\n"),
+        23 => say(b"the tree is not safe: it can be satisfied without a signature\n"),
+        24 => say(b"the tree is malleable\n"),
+        25 => say(b"a fragment of the tree is not locally valid\n"),
+        26 => say(b"the tree does not mean what the policy means\n"),
         _ => true,
     }
 }
@@ -114,15 +129,20 @@ fn show_given(bytes: u64, cost: u64, never: u32, nodes: u64) -> bool {
     say_line(b"nodes", nodes) & first & second
 }
 
-// The line of a type.
-fn show_type(t: Type) -> bool {
+// Writes the letters of a type.
+fn say_type(t: Type) -> bool {
     let mut corr = correctness_letters(t.corr);
     let mut mall = malleability_letters(t.mall);
-    let worded = say(b"type ");
     let first = say_places(&mut corr);
     let spaced = say(b" ");
-    let second = say_places(&mut mall);
-    say(b"\n") & worded & first & spaced & second
+    say_places(&mut mall) & first & spaced
+}
+
+// The line of a type.
+fn show_type(t: Type) -> bool {
+    let worded = say(b"type ");
+    let lettered = say_type(t);
+    say(b"\n") & worded & lettered
 }
 
 // The first `count` of a record's children.
@@ -145,7 +165,7 @@ fn show_keys(bytes: &[u8], count: usize) -> bool {
     let mut i: u16 = 0;
     while i < 16 {
         if (i as usize) < count {
-            let said = say_number(records::key_at(bytes, i) as u64);
+            let said = say_number(records::key_at(bytes, i));
             whole = whole & said;
         }
         i += 1;
@@ -165,8 +185,8 @@ fn show_parts(shape: Shape, bytes: &[u8]) -> bool {
     let children = parts.children;
     match shape {
         Shape::Nothing => true,
-        Shape::Number => say_number(parts.number as u64),
-        Shape::Lock => say_number(parts.number as u64),
+        Shape::Number => say_number(parts.number),
+        Shape::Lock => say_number(parts.number),
         Shape::OneChild => show_children(children, parts.count),
         Shape::TwoChildren => show_children(children, parts.count),
         Shape::ThreeChildren => show_children(children, parts.count),
@@ -218,12 +238,12 @@ fn show_tree(tree: &[u8]) -> bool {
 }
 
 // Writes a byte in two hexadecimal digits.
-fn say_byte(b: u8) -> bool {
+pub fn say_byte(b: u8) -> bool {
     io::print_hex(STDOUT_FILENO, b as u64, 2)
 }
 
 // Writes bytes in hexadecimal.
-fn say_hex(bytes: &[u8]) -> bool {
+pub fn say_hex(bytes: &[u8]) -> bool {
     let mut whole = true;
     let mut i = 0;
     while i < bytes.len() {
@@ -242,7 +262,7 @@ fn show_bytes(script: &[u8]) -> bool {
 }
 
 // Says so where not all of an answer was written.
-fn say_unless(whole: bool) {
+pub fn say_unless(whole: bool) {
     if !whole {
         os::fail(b"standard output");
     }
@@ -282,6 +302,17 @@ pub fn show_script(script: &[u8]) {
     let first = show_number(0);
     let counted = say_line(b"bytes", script.len() as u64);
     say_unless(show_bytes(script) & first & counted);
+}
+
+// Shows the answer to a policy that was moved: how many bytes it has.
+pub fn show_moved(bytes: u64) {
+    let first = show_number(0);
+    say_unless(say_line(b"bytes", bytes) & first);
+}
+
+// Writes record i of a tree as in the lines of a tree that was compiled.
+pub fn say_record_at(tree: &[u8], i: usize) -> bool {
+    differences::say_record_at(tree, i)
 }
 
 // Shows the differences of two trees, of which the entry has told both record numbers in eight bytes each: how many there are, and each as a line.

@@ -1,9 +1,10 @@
 -- The worked scripts, by computation. Assumes nothing.
 use mathlib.Core.Path.{refl}
 use Rattle.words.specs.Bytes.{little, leAt}
-use Rattle.records.specs.Numbers.{u16s, u32s}
+use Rattle.records.specs.Numbers.{u16s, numbersAt}
 use Rattle.records.specs.Shapes.{lookUp, shapeOf}
-use Rattle.records.specs.Payloads.{payloadOf}
+use Rattle.records.specs.Payloads.{width, payloadOf}
+use Rattle.records.specs.RecordForm.{kindOf}
 use Rattle.trees.specs.Typing.{typeOf}
 use Rattle.trees.specs.Height.{heightOf}
 use Rattle.trees.specs.Reading.{takeAll, rootOf, addRecord, readFrom, readTree}
@@ -21,7 +22,7 @@ unfolding allHold same scriptBytes encode pushBytes ⟦_⟧ sum adds mergeVerify
 worked-scripts = refl
 
 pub worked-answers : WorkedAnswers
-unfolding scriptOf checkOf typedTreeOf readTree readFrom addRecord takeAll rootOf find typeOf heightOf payloadOf lookUp shapeOf u16s u32s leAt little
+unfolding scriptOf checkOf typedTreeOf readTree readFrom addRecord takeAll rootOf find typeOf heightOf kindOf width payloadOf lookUp shapeOf u16s numbersAt leAt little
     hasEntries scriptBytes encode pushBytes ⟦_⟧ mergeVerify form
 worked-answers = record {
   written = refl;

@@ -1,13 +1,13 @@
 -- The numbers that stand in a record, by its kind, and those of the tree: entries of the leaf that a record makes. Assumes nothing.
-use Prim.Native.Nat.{ℕ, _+_, _*_, _≤_, _<_}
+use Prim.Native.Nat.{ℕ, suc, _+_, _*_, _/_, _≤_, _<_}
 use mathlib.Core.Bool.{Bool, true, false, _&&_, cond}
 use mathlib.Core.List.{List, [], _∷_}
 use mathlib.Core.Option.{Option, none, some}
 use mathlib.Core.Path.{_≡_, refl, sym, ap, _∙_}
-use native.Mathlib.Nat.{mul-le-mul-left}
+use native.Mathlib.Nat.{le-div-iff-mul-le}
 use native.Mathlib.Omega.{arith}
-use borrow.Author.Tests.{eqb-true, eqb-false}
-use lib.Dec.{eqb}
+use borrow.Author.Tests.{eqb-true, eqb-false, ltb-true, ltb-false, le-leb, lt-leb, leb-true, leb-false}
+use lib.Dec.{eqb, leb, ltb}
 use Rattle.records.specs.Payloads.{numberIn, keyAt, firstKeys, keysFrom, keysIn}
 use Rattle.records.specs.RecordForm.{kindOf}
 use Rattle.records.proofs.Laws.{keys-first, keys-next, keys-end}
@@ -183,8 +183,16 @@ module _ (c : Context) (t : Tables) (bytes : Bytes) (count : ℕ) where
   keys-done j all h so-far =
       sym (and-true all) ∙ ap (λ (ks : List ℕ). all && hasKeys c t ks) (sym (keys-end bytes count j h)) ∙ so-far
 
--- the end of an entry is a number of 64 bits
-pub entry-end : (i size : ℕ) → i < 4294967296 → size ≤ 75 → (i + 1) * size < 18446744073709551616
-entry-end i size h k =
-    let most : (i + 1) * size ≤ (i + 1) * 75 = mul-le-mul-left (i + 1) k in
-    omega arith
+-- an entry is whole exactly if its number is below the number of whole entries
+pub entry-fits : (i size n : ℕ) → 1 ≤ size → ltb i (n / size) ≡ leb (suc i * size) n
+entry-fits i size n positive = by-test (ltb i (n / size)) refl
+  where
+    by-test : (t : Bool) → ltb i (n / size) ≡ t → t ≡ leb (suc i * size) n
+    by-test true e = sym (le-leb (suc i * size) n (le-div-iff-mul-le {k = size} {x = suc i} {y = n} positive .0 (ltb-true i (n / size) e)))
+    by-test false e = sym (lt-leb (suc i * size) n (beyond (leb (suc i * size) n) refl))
+      where
+        beyond : (t : Bool) → leb (suc i * size) n ≡ t → n < suc i * size
+        beyond true l =
+            let below : suc i ≤ n / size = le-div-iff-mul-le {k = size} {x = suc i} {y = n} positive .1 (leb-true (suc i * size) n l) in
+            absurd (omega (arith, ltb-false i (n / size) e))
+        beyond false l = leb-false (suc i * size) n l

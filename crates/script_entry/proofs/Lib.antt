@@ -7,3 +7,4 @@ pub mod Entries
 pub mod Scanning
 pub mod Runs
 pub mod Promised
+pub mod LongKeys

@@ -280,15 +280,15 @@ fn both(a: bool, b: bool) -> bool
 }
 
 // Whether a table with entries of `size` bytes has all of entry i.
-fn has_entry(table: &[u8], size: usize, i: u32) -> bool
-    requires { ⌜ size ≤ 75 ⌝ }
+fn has_entry(table: &[u8], size: usize, i: u64) -> bool
+    requires { ⌜ 1 ≤ size ⌝ }
     ensures { λ r. ⌜ r ≡ whole size (now (table .entry)) i ⌝ }
 {
-    (i as usize + 1) * size <= table.len()
+    (i as usize) < table.len() / size
 }
 
 // Whether key i is there.
-fn has_key(context: Context, keys: &[u8], i: u32) -> bool
+fn has_key(context: Context, keys: &[u8], i: u64) -> bool
     ensures { λ r. ⌜ r ≡ whole (keySize context) (now (keys .entry)) i ⌝ }
 {
     match context {

@@ -184,7 +184,7 @@ pub fn put_bytes(out: &mut [u8], at: usize, bytes: &[u8]) -> usize
 }
 
 // Lays the push of entry i of a table.
-pub fn put_entry(out: &mut [u8], at: usize, size: usize, table: &[u8], i: u32) -> usize
+pub fn put_entry(out: &mut [u8], at: usize, size: usize, table: &[u8], i: u64) -> usize
     requires { ⌜ EntrySize size × (whole size (now table) i ≡ true) ⌝ }
     ensures { λ r. ⌜ Lays (now (out .entry)) (now (out .exit)) at (pushBytes (entry size (now (table .entry)) i)) r ⌝ }
 {
@@ -205,7 +205,7 @@ fn key_size(context: Context) -> usize
 }
 
 // Lays the push of key i.
-fn put_key(out: &mut [u8], at: usize, context: Context, keys: &[u8], i: u32) -> usize
+fn put_key(out: &mut [u8], at: usize, context: Context, keys: &[u8], i: u64) -> usize
     requires { ⌜ whole (keySize context) (now keys) i ≡ true ⌝ }
     ensures { λ r. ⌜ Lays (now (out .entry)) (now (out .exit)) at (pushBytes (entry (keySize context) (now (keys .entry)) i)) r ⌝ }
 {
@@ -218,7 +218,7 @@ fn lay_pk_k(
     at: usize,
     context: Context,
     keys: &[u8],
-    i: u32,
+    i: u64,
     verified: bool,
 ) -> usize
     requires { ⌜ whole (keySize context) (now keys) i ≡ true ⌝ }
@@ -229,7 +229,7 @@ fn lay_pk_k(
 }
 
 // Lays PkH.
-fn lay_pk_h(out: &mut [u8], at: usize, key_hashes: &[u8], i: u32, verified: bool) -> usize
+fn lay_pk_h(out: &mut [u8], at: usize, key_hashes: &[u8], i: u64, verified: bool) -> usize
     requires { ⌜ whole keyHashSize (now «key_hashes») i ≡ true ⌝ }
     ensures { λ r. ⌜ Lays (now (out .entry)) (now (out .exit)) at
         (0x76 ∷ 0xa9 ∷ pushBytes (entry keyHashSize (now («key_hashes» .entry)) i) ++ 0x88 ∷ verifyByte verified) r ⌝ }
@@ -263,7 +263,7 @@ fn lay_hash(
     opcode: u8,
     size: usize,
     table: &[u8],
-    i: u32,
+    i: u64,
     verified: bool,
 ) -> usize
     requires { ⌜ EntrySize size × (whole size (now table) i ≡ true) ⌝ }
@@ -282,14 +282,15 @@ fn lay_numbered(
     at: usize,
     context: Context,
     kind: u16,
-    n: u32,
+    n: u64,
     keys: &[u8],
     key_hashes: &[u8],
     hashes32: &[u8],
     hashes20: &[u8],
     verified: bool,
 ) -> usize
-    requires { ⌜ hasEntries context (tables (now keys) (now «key_hashes») (now hashes32) (now hashes20)) (numbered kind n) ≡ true ⌝ }
+    requires { ⌜ (hasEntries context (tables (now keys) (now «key_hashes») (now hashes32) (now hashes20)) (numbered kind n) ≡ true)
+        × (35 < kind → kind < 38 → n < 4294967296) ⌝ }
     ensures { λ r. ⌜ Lays (now (out .entry)) (now (out .exit)) at
         (bytesOf context (tables (now (keys .entry)) (now («key_hashes» .entry)) (now (hashes32 .entry)) (now (hashes20 .entry))) verified
         (numbered kind n)) r ⌝ }
@@ -298,8 +299,8 @@ fn lay_numbered(
         33 => put_op(out, at, OP_1, verified),
         34 => lay_pk_k(out, at, context, keys, n, verified),
         35 => lay_pk_h(out, at, key_hashes, n, verified),
-        36 => lay_lock(out, at, CHECKLOCKTIMEVERIFY, n, verified),
-        37 => lay_lock(out, at, CHECKSEQUENCEVERIFY, n, verified),
+        36 => lay_lock(out, at, CHECKLOCKTIMEVERIFY, n as u32, verified),
+        37 => lay_lock(out, at, CHECKSEQUENCEVERIFY, n as u32, verified),
         38 => lay_hash(out, at, SHA256, 32, hashes32, n, verified),
         39 => lay_hash(out, at, HASH256, 32, hashes32, n, verified),
         40 => lay_hash(out, at, RIPEMD160, 20, hashes20, n, verified),

@@ -4,6 +4,7 @@
 // record). The laws that compose them stand in proofs/Laws.antt.
 ghost use mathlib.Core.Path.{_≡_};
 ghost use mathlib.Core.Bool.{true};
+ghost use Prim.Native.Nat.{_<_};
 ghost use Rattle.contexts.specs.Leaves.{LockKind, HashKind};
 ghost use Rattle.contexts.specs.declared.Context.{Context};
 ghost use Rattle.records.specs.Payloads.{firstKeys, keysIn};
@@ -48,7 +49,7 @@ pub fn push_number(log: &[u8], main: &mut [u64], m: Machine, n: u32) -> Machine
 }
 
 // Pushes entry i of a table that begins at `from`, with `size` bytes an entry.
-fn push_entry(log: &[u8], main: &mut [u64], m: Machine, from: usize, size: usize, i: u32) -> Machine
+fn push_entry(log: &[u8], main: &mut [u64], m: Machine, from: usize, size: usize, i: u64) -> Machine
     requires { ⌜ Fits (now log) (now main) m × Reaches (now log) from size i ⌝ }
     ensures { λ r. ⌜ Pushes (now (log .entry)) (now (main .entry)) (now (main .exit)) m (entryAt from size i) r ⌝ }
 {
@@ -74,7 +75,7 @@ fn push_key(
     head: Offsets,
     main: &mut [u64],
     m: Machine,
-    i: u32,
+    i: u64,
 ) -> Machine
     requires { ⌜ Fits (now log) (now main) m × (hasKey context (tablesIn (now log) head) i ≡ true) ⌝ }
     ensures { λ r. ⌜ Acts (recordedStep context (tablesIn (now (log .entry)) head) (<key> i)) (now (log .entry))
@@ -85,7 +86,7 @@ fn push_key(
 }
 
 // Runs PkH.
-fn run_pk_h(log: &[u8], head: Offsets, main: &mut [u64], m: Machine, i: u32) -> Machine
+fn run_pk_h(log: &[u8], head: Offsets, main: &mut [u64], m: Machine, i: u64) -> Machine
     requires { ⌜ Fits (now log) (now main) m × (hasKeyHash (tablesIn (now log) head) i ≡ true) ⌝ }
     ensures { λ r. ⌜ ((c : Context) → Acts (plays c (tablesIn (now (log .entry)) head) (PkH i)) (now (log .entry))
         (now (main .entry)) (now (main .exit)) m r) ⌝ }
@@ -107,7 +108,7 @@ fn run_lock(log: &[u8], main: &mut [u64], m: Machine, n: u32) -> Machine
 }
 
 // Runs a hash whose value is entry i of a table that begins at `from`, with `size` bytes an entry.
-fn run_hash(log: &[u8], from: usize, size: usize, main: &mut [u64], m: Machine, i: u32) -> Machine
+fn run_hash(log: &[u8], from: usize, size: usize, main: &mut [u64], m: Machine, i: u64) -> Machine
     requires { ⌜ Fits (now log) (now main) m × Reaches (now log) from size i ⌝ }
     ensures { λ r. ⌜ ((c : Context) (t : Tables) (kind : HashKind)
         → bytesIn (now (log .entry)) (entryAt from size i) ≡ hash t kind i
@@ -127,11 +128,12 @@ fn run_numbered(
     log: &[u8],
     head: Offsets,
     kind: u16,
-    n: u32,
+    n: u64,
     main: &mut [u64],
     m: Machine,
 ) -> Machine
-    requires { ⌜ Fits (now log) (now main) m × (hasEntries context (tablesIn (now log) head) (numbered kind n) ≡ true) ⌝ }
+    requires { ⌜ Fits (now log) (now main) m × (hasEntries context (tablesIn (now log) head) (numbered kind n) ≡ true)
+        × (35 < kind → kind < 38 → n < 4294967296) ⌝ }
     ensures { λ r. ⌜ Acts (plays context (tablesIn (now (log .entry)) head) (numbered kind n)) (now (log .entry))
         (now (main .entry)) (now (main .exit)) m r ⌝ }
 {
@@ -139,8 +141,8 @@ fn run_numbered(
         33 => push_number(log, main, m, 1),
         34 => push_key(context, log, head, main, m, n),
         35 => run_pk_h(log, head, main, m, n),
-        36 => run_lock(log, main, m, n),
-        37 => run_lock(log, main, m, n),
+        36 => run_lock(log, main, m, n as u32),
+        37 => run_lock(log, main, m, n as u32),
         38 => run_hash(log, head.hashes32, 32, main, m, n),
         39 => run_hash(log, head.hashes32, 32, main, m, n),
         40 => run_hash(log, head.hashes20, 20, main, m, n),

@@ -14,7 +14,7 @@ use Rattle.walk.specs.TreeRecords.{fragmentAt, TreeRecords}
 use Rattle.walk.specs.Heads.{childrenIn}
 use Rattle.walk.specs.Folds.{every, overRecords, Gathers, OwnAndChildren}
 use Rattle.walk.proofs.FoldLaws.{over-records}
-use Rattle.tree_figures.specs.LocallyValid.{valid, allValid, eachValid}
+use Rattle.tree_figures.specs.LocallyValid.{everywhere, everywhereIn, valid, allValid}
 
 and-true : (a : Bool) → a && true ≡ a
 and-true true = refl
@@ -37,49 +37,49 @@ and-comm false false = refl
 and-gathers : Gathers _&&_ true
 and-gathers = record { right-unit = and-true; assoc = and-assoc; comm = and-comm }
 
-module _ (c : Context) where
-  each-list : (xs : Fragments) → eachValid c xs ≡ every _&&_ true (allValid c) (toList xs)
-  unfolding eachValid every toList
+module _ (p : Fragment → Bool) where
+  each-list : (xs : Fragments) → everywhereIn p xs ≡ every _&&_ true (everywhere p) (toList xs)
+  unfolding everywhere every toList
   each-list end = refl
-  each-list (x ▹ xs) = ap (λ (b : Bool). allValid c x && b) (each-list xs)
+  each-list (x ▹ xs) = ap (λ (b : Bool). everywhere p x && b) (each-list xs)
 
   leaf : (b : Bool) → b ≡ b && true
   leaf b = sym (and-true b)
 
-  one : (b : Bool) (x : Fragment) → b && allValid c x ≡ b && (allValid c x && true)
-  one b x = ap (λ (y : Bool). b && y) (leaf (allValid c x))
+  one : (b : Bool) (x : Fragment) → b && everywhere p x ≡ b && (everywhere p x && true)
+  one b x = ap (λ (y : Bool). b && y) (leaf (everywhere p x))
 
-  two : (b : Bool) (x y : Fragment) → b && (allValid c x && allValid c y) ≡ b && (allValid c x && (allValid c y && true))
-  two b x y = ap (λ (z : Bool). b && z) (one (allValid c x) y)
+  two : (b : Bool) (x y : Fragment) → b && (everywhere p x && everywhere p y) ≡ b && (everywhere p x && (everywhere p y && true))
+  two b x y = ap (λ (z : Bool). b && z) (one (everywhere p x) y)
 
-  splits : OwnAndChildren _&&_ true (allValid c) (valid c)
-  unfolding allValid childrenIn every
-  splits False = leaf (valid c False)
-  splits True = leaf (valid c True)
-  splits (PkK n) = leaf (valid c (PkK n))
-  splits (PkH n) = leaf (valid c (PkH n))
-  splits (Lock kind n) = leaf (valid c (Lock kind n))
-  splits (Hash kind n) = leaf (valid c (Hash kind n))
-  splits (Alt x) = one (valid c (Alt x)) x
-  splits (Swap x) = one (valid c (Swap x)) x
-  splits (Check x) = one (valid c (Check x)) x
-  splits (DupIf x) = one (valid c (DupIf x)) x
-  splits (Verify x) = one (valid c (Verify x)) x
-  splits (NonZero x) = one (valid c (NonZero x)) x
-  splits (ZeroNotEqual x) = one (valid c (ZeroNotEqual x)) x
-  splits (AndB x y) = two (valid c (AndB x y)) x y
-  splits (AndV x y) = two (valid c (AndV x y)) x y
-  splits (OrB x y) = two (valid c (OrB x y)) x y
-  splits (OrD x y) = two (valid c (OrD x y)) x y
-  splits (OrC x y) = two (valid c (OrC x y)) x y
-  splits (OrI x y) = two (valid c (OrI x y)) x y
-  splits (AndOr x y z) = ap (λ (b : Bool). valid c (AndOr x y z) && b) (two (allValid c x) y z)
-  splits (Thresh k xs) = ap (λ (b : Bool). valid c (Thresh k xs) && b) (each-list xs)
-  splits (Multi k keys) = leaf (valid c (Multi k keys))
-  splits (MultiA k keys) = leaf (valid c (MultiA k keys))
+  pub splits : OwnAndChildren _&&_ true (everywhere p) p
+  unfolding everywhere childrenIn every
+  splits False = leaf (p False)
+  splits True = leaf (p True)
+  splits (PkK n) = leaf (p (PkK n))
+  splits (PkH n) = leaf (p (PkH n))
+  splits (Lock kind n) = leaf (p (Lock kind n))
+  splits (Hash kind n) = leaf (p (Hash kind n))
+  splits (Alt x) = one (p (Alt x)) x
+  splits (Swap x) = one (p (Swap x)) x
+  splits (Check x) = one (p (Check x)) x
+  splits (DupIf x) = one (p (DupIf x)) x
+  splits (Verify x) = one (p (Verify x)) x
+  splits (NonZero x) = one (p (NonZero x)) x
+  splits (ZeroNotEqual x) = one (p (ZeroNotEqual x)) x
+  splits (AndB x y) = two (p (AndB x y)) x y
+  splits (AndV x y) = two (p (AndV x y)) x y
+  splits (OrB x y) = two (p (OrB x y)) x y
+  splits (OrD x y) = two (p (OrD x y)) x y
+  splits (OrC x y) = two (p (OrC x y)) x y
+  splits (OrI x y) = two (p (OrI x y)) x y
+  splits (AndOr x y z) = ap (λ (b : Bool). p (AndOr x y z) && b) (two (everywhere p x) y z)
+  splits (Thresh k xs) = ap (λ (b : Bool). p (Thresh k xs) && b) (each-list xs)
+  splits (Multi k keys) = leaf (p (Multi k keys))
+  splits (MultiA k keys) = leaf (p (MultiA k keys))
 
   module _ (tree : List ℕ) where
-    all-so-far : (n : ℕ) → ((i : ℕ) → i < n → valid c (fragmentAt tree i) ≡ true) → overRecords _&&_ true (valid c) tree n ≡ true
+    all-so-far : (n : ℕ) → ((i : ℕ) → i < n → p (fragmentAt tree i) ≡ true) → overRecords _&&_ true p tree n ≡ true
     unfolding overRecords
     all-so-far zero h = refl
     all-so-far (suc n) h =
@@ -87,26 +87,29 @@ module _ (c : Context) where
         let last = h n (omega arith) in
         rw (before, last)
 
-    one-not : (n i : ℕ) → i < n → valid c (fragmentAt tree i) ≡ false → overRecords _&&_ true (valid c) tree n ≡ false
+    one-not : (n i : ℕ) → i < n → p (fragmentAt tree i) ≡ false → overRecords _&&_ true p tree n ≡ false
     unfolding overRecords
     one-not zero i l h = absurd (omega arith)
     one-not (suc n) i l h = by-place (eqb i n) refl (one-not n i)
       where
-        by-place : (b : Bool) → eqb i n ≡ b → (i < n → valid c (fragmentAt tree i) ≡ false → overRecords _&&_ true (valid c) tree n ≡ false)
-            → overRecords _&&_ true (valid c) tree n && valid c (fragmentAt tree n) ≡ false
+        by-place : (b : Bool) → eqb i n ≡ b → (i < n → p (fragmentAt tree i) ≡ false → overRecords _&&_ true p tree n ≡ false)
+            → overRecords _&&_ true p tree n && p (fragmentAt tree n) ≡ false
         by-place true e rest =
-            let last : valid c (fragmentAt tree n) ≡ false = subst (λ (j : ℕ). valid c (fragmentAt tree j) ≡ false) (eqb-true i n e) h in
-            ap (λ (b : Bool). overRecords _&&_ true (valid c) tree n && b) last ∙ and-false (overRecords _&&_ true (valid c) tree n)
+            let last : p (fragmentAt tree n) ≡ false = subst (λ (j : ℕ). p (fragmentAt tree j) ≡ false) (eqb-true i n e) h in
+            ap (λ (b : Bool). overRecords _&&_ true p tree n && b) last ∙ and-false (overRecords _&&_ true p tree n)
         by-place false e rest =
             let before = rest (omega (arith, eqb-false i n e)) h in
-            ap (λ (b : Bool). b && valid c (fragmentAt tree n)) before
+            ap (λ (b : Bool). b && p (fragmentAt tree n)) before
 
-  pub everywhere : {tree : List ℕ} {f : Fragment} (r : TreeRecords tree f) → ((i : ℕ) → i < r .count → valid c (fragmentAt tree i) ≡ true)
+module _ (c : Context) where
+  pub all-records : {tree : List ℕ} {f : Fragment} (r : TreeRecords tree f) → ((i : ℕ) → i < r .count → valid c (fragmentAt tree i) ≡ true)
       → true ≡ allValid c f
-  everywhere {tree} r h =
-      sym (over-records _&&_ true and-gathers (allValid c) (valid c) splits r ∙ all-so-far tree (r .count) h)
+  unfolding allValid
+  all-records {tree} r h =
+      sym (over-records _&&_ true and-gathers (everywhere (valid c)) (valid c) (splits (valid c)) r ∙ all-so-far (valid c) tree (r .count) h)
 
   pub somewhere-not : {tree : List ℕ} {f : Fragment} (r : TreeRecords tree f) (i : ℕ) → i < r .count → valid c (fragmentAt tree i) ≡ false
       → false ≡ allValid c f
+  unfolding allValid
   somewhere-not {tree} r i l h =
-      sym (over-records _&&_ true and-gathers (allValid c) (valid c) splits r ∙ one-not tree (r .count) i l h)
+      sym (over-records _&&_ true and-gathers (everywhere (valid c)) (valid c) (splits (valid c)) r ∙ one-not (valid c) tree (r .count) i l h)

@@ -14,6 +14,8 @@ use Rattle.records.specs.Payloads.{Payload, numberOf, kOf, countOf, childrenOf}
 use Rattle.records.specs.RecordForm.{kindOf, fragmentPayload}
 use Rattle.records.specs.Answers.{partsOf}
 use Rattle.records.specs.Shapes.{arity}
+use Rattle.records.proofs.KindRanges.{shapes-in}
+use Rattle.records.proofs.Laws.{of-fragment, fragment-record, is-lock, lock-bounds}
 use Rattle.records.proofs.Arities.{Found, own-children, few-children, rule-needs, same-children}
 use Rattle.contexts.specs.declared.Context.{Context}
 use Rattle.figures.specs.declared.ExtData.{ExtData}
@@ -34,7 +36,7 @@ use Rattle.tree_figures.specs.Memory.{figureWords, figuresAt, putFigures
 use Rattle.tree_figures.proofs.Words.{put-long, put-same, put-before}
 use Rattle.tree_figures.proofs.Loading.{number-is, loaded-child, loaded-all}
 use Rattle.tree_figures.proofs.Steps.{same-figures, record-figures}
-use Rattle.tree_figures.proofs.Everywhere.{everywhere, somewhere-not}
+use Rattle.tree_figures.proofs.Everywhere.{all-records, somewhere-not}
 
 -- ---- one record's bytes
 
@@ -67,12 +69,19 @@ module _ {bytes work : List ℕ} {i : ℕ} (stands : Stands bytes work i) {parts
   same-number : parts .number ≡ numberOf (stands .payload)
   same-number = ap (λ (x : Parts). x .number) (its-record .parts-are)
 
+  small-lock : 36 ≤ kindOf bytes → kindOf bytes ≤ 37 → numberOf (stands .payload) < 4294967296
+  small-lock l h =
+      let is = of-fragment bytes (fragment-record bytes (stands .fits) .0) (shapes-in 36 37 refl (kindOf bytes) l h) in
+      let its = is-lock bytes (sym is ∙ stands .fits) in
+      rw its (omega (arith, lock-bounds bytes (sym is ∙ stands .fits ∙ ap some its) .1))
+
   module _ {out : List ExtData} (l : Loaded work (parts .children) n out) where
-    pub ready : Ready i kind (parts .k) (parts .count) out
+    pub ready : Ready i kind (parts .number) (parts .k) (parts .count) out
     ready =
         record {
           low = omega (arith, stands .few);
           entered = λ j h. by-place j (ltb j n) refl;
+          lock = λ l h. rw same-number (small-lock (omega (arith, k)) (omega (arith, k)));
           bounds = λ h. let b = stands .bounds (omega (arith, k, h)) in
               (omega (arith, same-k, b .0), omega (arith, same-k, same-n, b .1), omega (arith, same-n, b .2));
         }
@@ -98,7 +107,7 @@ module _ {bytes work : List ℕ} {i : ℕ} (stands : Stands bytes work i) {parts
           ∙ rw (same-number, same-k, same-n, k, stands .fits)
 
       pub figures-make : Candidate (i + 1) r
-      figures-make = subst (Candidate (i + 1)) (sym e) (makes ready (l .long) c (parts .number))
+      figures-make = subst (Candidate (i + 1)) (sym e) (makes ready (l .long) c)
 
 pub make-small : {bytes work : List ℕ} {i : ℕ} → Stands bytes work i → {x : ExtData} → Candidate (i + 1) x → Small x
 make-small stands m = candidate-small m (omega (arith, stands .few))
@@ -211,7 +220,7 @@ module _ {c : Context} {tree work : List ℕ} {at i : ℕ} (sofar : FiguresOn c 
 
 pub figures-done : {c : Context} {tree work : List ℕ} {at i : ℕ} → FiguresOn c tree work at i → length tree ≤ at
     → (g : Fragment) → TreeRecords tree g → true ≡ allValid c g
-figures-done {c} sofar h g s = everywhere c s (λ j l. sofar .so-far j (omega (arith, l, all-walked (sofar .on) s h)))
+figures-done {c} sofar h g s = all-records c s (λ j l. sofar .so-far j (omega (arith, l, all-walked (sofar .on) s h)))
 
 -- ---- what is stored, and what is said of it
 

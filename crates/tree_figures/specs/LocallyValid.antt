@@ -9,37 +9,41 @@ use Rattle.trees.specs.Fragment.{AndB, AndV, OrB, OrD, OrC, OrI, AndOr, Thresh,
 use Rattle.walk.specs.Heads.{headOf}
 use Rattle.definition_laws.specs.Laws.{figuresOf}
 
+-- whether something holds of a fragment and of every fragment in it
+unfoldable mutual
+  pub everywhere : (Fragment → Bool) → Fragment → Bool
+  everywhere p False = p False
+  everywhere p True = p True
+  everywhere p (PkK n) = p (PkK n)
+  everywhere p (PkH n) = p (PkH n)
+  everywhere p (Lock kind n) = p (Lock kind n)
+  everywhere p (Hash kind n) = p (Hash kind n)
+  everywhere p (Alt x) = p (Alt x) && everywhere p x
+  everywhere p (Swap x) = p (Swap x) && everywhere p x
+  everywhere p (Check x) = p (Check x) && everywhere p x
+  everywhere p (DupIf x) = p (DupIf x) && everywhere p x
+  everywhere p (Verify x) = p (Verify x) && everywhere p x
+  everywhere p (NonZero x) = p (NonZero x) && everywhere p x
+  everywhere p (ZeroNotEqual x) = p (ZeroNotEqual x) && everywhere p x
+  everywhere p (AndB x y) = p (AndB x y) && (everywhere p x && everywhere p y)
+  everywhere p (AndV x y) = p (AndV x y) && (everywhere p x && everywhere p y)
+  everywhere p (OrB x y) = p (OrB x y) && (everywhere p x && everywhere p y)
+  everywhere p (OrD x y) = p (OrD x y) && (everywhere p x && everywhere p y)
+  everywhere p (OrC x y) = p (OrC x y) && (everywhere p x && everywhere p y)
+  everywhere p (OrI x y) = p (OrI x y) && (everywhere p x && everywhere p y)
+  everywhere p (AndOr x y z) = p (AndOr x y z) && (everywhere p x && (everywhere p y && everywhere p z))
+  everywhere p (Thresh k xs) = p (Thresh k xs) && everywhereIn p xs
+  everywhere p (Multi k keys) = p (Multi k keys)
+  everywhere p (MultiA k keys) = p (MultiA k keys)
+
+  pub everywhereIn : (Fragment → Bool) → Fragments → Bool
+  everywhereIn p end = true
+  everywhereIn p (x ▹ xs) = everywhere p x && everywhereIn p xs
+
 -- a fragment's own figures
 abbrev pub valid : Context → Fragment → Bool
 valid c f = checkLocalValidity c (headOf f .kind) (figuresOf c f)
 
 -- its own and those of every fragment in it
-unfoldable mutual
-  pub allValid : Context → Fragment → Bool
-  allValid c False = valid c False
-  allValid c True = valid c True
-  allValid c (PkK n) = valid c (PkK n)
-  allValid c (PkH n) = valid c (PkH n)
-  allValid c (Lock kind n) = valid c (Lock kind n)
-  allValid c (Hash kind n) = valid c (Hash kind n)
-  allValid c (Alt x) = valid c (Alt x) && allValid c x
-  allValid c (Swap x) = valid c (Swap x) && allValid c x
-  allValid c (Check x) = valid c (Check x) && allValid c x
-  allValid c (DupIf x) = valid c (DupIf x) && allValid c x
-  allValid c (Verify x) = valid c (Verify x) && allValid c x
-  allValid c (NonZero x) = valid c (NonZero x) && allValid c x
-  allValid c (ZeroNotEqual x) = valid c (ZeroNotEqual x) && allValid c x
-  allValid c (AndB x y) = valid c (AndB x y) && (allValid c x && allValid c y)
-  allValid c (AndV x y) = valid c (AndV x y) && (allValid c x && allValid c y)
-  allValid c (OrB x y) = valid c (OrB x y) && (allValid c x && allValid c y)
-  allValid c (OrD x y) = valid c (OrD x y) && (allValid c x && allValid c y)
-  allValid c (OrC x y) = valid c (OrC x y) && (allValid c x && allValid c y)
-  allValid c (OrI x y) = valid c (OrI x y) && (allValid c x && allValid c y)
-  allValid c (AndOr x y z) = valid c (AndOr x y z) && (allValid c x && (allValid c y && allValid c z))
-  allValid c (Thresh k xs) = valid c (Thresh k xs) && eachValid c xs
-  allValid c (Multi k keys) = valid c (Multi k keys)
-  allValid c (MultiA k keys) = valid c (MultiA k keys)
-
-  pub eachValid : Context → Fragments → Bool
-  eachValid c end = true
-  eachValid c (x ▹ xs) = allValid c x && eachValid c xs
+unfoldable pub allValid : Context → Fragment → Bool
+allValid c f = everywhere (valid c) f

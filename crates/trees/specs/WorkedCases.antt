@@ -3,9 +3,10 @@ use Prim.Native.Nat.{ℕ, zero, suc}
 use mathlib.Core.List.{List, [], _∷_, _++_}
 use mathlib.Core.Path.{_≡_, refl}
 use Rattle.words.specs.Bytes.{little, leAt}
-use Rattle.records.specs.Numbers.{u16s, u32s}
+use Rattle.records.specs.Numbers.{u16s, numbersAt}
 use Rattle.records.specs.Shapes.{lookUp, shapeOf}
-use Rattle.records.specs.Payloads.{payloadOf}
+use Rattle.records.specs.Payloads.{width, payloadOf}
+use Rattle.records.specs.RecordForm.{kindOf}
 use Rattle.types.specs.declared.«Type».{«Type»}
 use Rattle.types.specs.declared.TypeResult.{TypeResult}
 use Rattle.types.specs.declared.TypeResult.the-variants.{Ok}
@@ -32,16 +33,16 @@ multi = 12 ∷ 0 ∷ 57 ∷ 0 ∷ 1 ∷ 0 ∷ 1 ∷ 0 ∷ 7 ∷ 0 ∷ 0 ∷ 0 �
 
 -- document 01's whole case is Check over PkK
 pub whole-case : treeOf (key ++ check) ≡ done (Check (PkK 7))
-unfolding little leAt u16s u32s lookUp shapeOf payloadOf takeAll rootOf addRecord readFrom readTree find treeOf
+unfolding little leAt u16s numbersAt lookUp shapeOf kindOf width payloadOf takeAll rootOf addRecord readFrom readTree find treeOf
 whole-case = refl
 
 -- a child taken twice, a record that none takes, no record
 pub child-twice : treeOf (key ++ twice) ≡ refused badTree
-unfolding little leAt u16s u32s lookUp shapeOf payloadOf takeAll rootOf addRecord readFrom readTree find treeOf
+unfolding little leAt u16s numbersAt lookUp shapeOf kindOf width payloadOf takeAll rootOf addRecord readFrom readTree find treeOf
 child-twice = refl
 
 pub unused : treeOf (key ++ key) ≡ refused badTree
-unfolding little leAt u16s u32s lookUp shapeOf payloadOf takeAll rootOf addRecord readFrom readTree find treeOf
+unfolding little leAt u16s numbersAt lookUp shapeOf kindOf width payloadOf takeAll rootOf addRecord readFrom readTree find treeOf
 unused = refl
 
 pub no-record : treeOf [] ≡ refused badTree
@@ -50,11 +51,11 @@ no-record = refl
 
 -- Multi in Tap, also where the bytes behind it are no record: records are taken in order
 pub multi-in-tapscript : checkOf 1 multi 4096 ≡ refused illTyped
-unfolding little leAt u16s u32s lookUp shapeOf payloadOf takeAll rootOf addRecord readFrom readTree find typeOf typedTreeOf checkOf
+unfolding little leAt u16s numbersAt lookUp shapeOf kindOf width payloadOf takeAll rootOf addRecord readFrom readTree find typeOf typedTreeOf checkOf
 multi-in-tapscript = refl
 
 pub ill-typed-first : checkOf 1 (multi ++ (0 ∷ [])) 4096 ≡ refused illTyped
-unfolding little leAt u16s u32s lookUp shapeOf payloadOf takeAll rootOf addRecord readFrom readTree find typeOf typedTreeOf checkOf
+unfolding little leAt u16s numbersAt lookUp shapeOf kindOf width payloadOf takeAll rootOf addRecord readFrom readTree find typeOf typedTreeOf checkOf
 ill-typed-first = refl
 
 -- ---- how tall a tree may be
@@ -71,13 +72,13 @@ numberOf (done x) = 0
 
 -- a tree that is 128 high passes, and one that is 129 high does not; ill-typed comes first
 pub height-128 : numberOf (checkOf 0 (key ++ check ++ wraps 126) 4096) ≡ 0
-unfolding wraps little leAt u16s u32s lookUp shapeOf payloadOf takeAll rootOf addRecord readFrom readTree find typeOf heightOf typedTreeOf checkOf
+unfolding wraps little leAt u16s numbersAt lookUp shapeOf kindOf width payloadOf takeAll rootOf addRecord readFrom readTree find typeOf heightOf typedTreeOf checkOf
 height-128 = refl
 
 pub height-129 : numberOf (checkOf 0 (key ++ check ++ wraps 127) 4096) ≡ treeTooTall
-unfolding wraps little leAt u16s u32s lookUp shapeOf payloadOf takeAll rootOf addRecord readFrom readTree find typeOf heightOf typedTreeOf checkOf
+unfolding wraps little leAt u16s numbersAt lookUp shapeOf kindOf width payloadOf takeAll rootOf addRecord readFrom readTree find typeOf heightOf typedTreeOf checkOf
 height-129 = refl
 
 pub ill-typed-and-tall : numberOf (checkOf 0 (key ++ check ++ wraps 126 ++ (6 ∷ 0 ∷ 44 ∷ 0 ∷ 127 ∷ 0 ∷ [])) 4096) ≡ illTyped
-unfolding wraps little leAt u16s u32s lookUp shapeOf payloadOf takeAll rootOf addRecord readFrom readTree find typeOf heightOf typedTreeOf checkOf
+unfolding wraps little leAt u16s numbersAt lookUp shapeOf kindOf width payloadOf takeAll rootOf addRecord readFrom readTree find typeOf heightOf typedTreeOf checkOf
 ill-typed-and-tall = refl

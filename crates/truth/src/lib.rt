@@ -185,7 +185,7 @@ fn record_word(bytes: &[u8], work: &[u64], t: Vars, words: [u64; 12]) -> u64
 }
 
 // The word of a tree: its records, children first.
-fn tree_word(tree: &[u8], work: &mut [u64], t: Vars, words: [u64; 12]) -> u64
+pub fn tree_word(tree: &[u8], work: &mut [u64], t: Vars, words: [u64; 12]) -> u64
     requires { ⌜ Written (now tree) × ((length (now work) ≡ 65536) × Roomy t) ⌝ }
     ensures { λ r. ⌜ ((f : Fragment) → TreeRecords (now (tree .entry)) f → (j : ℕ) → j < 64 → bitAt r j ≡ treeMeans (assigned (rowOf t) words j) f) ⌝ }
     ensures { λ _. ⌜ length (now (work .exit)) ≡ length (now (work .entry)) ⌝ }
@@ -210,7 +210,7 @@ fn is_leaf(kind: u64) -> bool
 }
 
 // The word of record i of a policy.
-fn policy_word(pol: &[u64], i: usize, t: Vars, words: [u64; 12]) -> u64
+pub fn policy_word(pol: &[u64], i: usize, t: Vars, words: [u64; 12]) -> u64
     requires { ⌜ Good (now pol) × ((i < maxRecords) × Roomy t) ⌝ }
     ensures { λ r. ⌜ ((j : ℕ) → j < 64 → bitAt r j ≡ policyMeans (assigned (rowOf t) words j) (policyAt (now (pol .entry)) i)) ⌝ }
 {
@@ -249,7 +249,7 @@ fn full(b: u64) -> u64
 }
 
 // The words of the variables in a block.
-fn block_words(block: u64) -> [u64; 12]
+pub fn block_words(block: u64) -> [u64; 12]
     ensures { λ r. ⌜ r ≡ blockWords block ⌝ }
 {
     [

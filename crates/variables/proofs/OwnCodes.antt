@@ -4,13 +4,14 @@ use mathlib.Core.Bool.{true, false}
 use mathlib.Core.List.{List, [], _∷_, _++_, map, append-assoc}
 use mathlib.Core.Option.{Option, some}
 use mathlib.Core.Path.{_≡_, refl, sym, ap, subst, _∙_}
+use native.Mathlib.Nat.{mul-zero, mul-suc}
 use native.Mathlib.Omega.{arith}
 use native.Mathlib.Numerals.{add-one}
 use borrow.Author.Tests.{le-leb, lt-leb}
 use lib.ListN.{length, take, drop, set, getD, length-set, length-map, List·getD-map}
 use lib.Seq.{take-suc-set, take-suc, getD-take, length-take-le, take-all}
-use Rattle.records.specs.Numbers.{u32s}
-use Rattle.records.specs.Payloads.{Payload, keys, numberOf, countOf, keysOf, kIn, keyAt, firstKeys, keysIn, countIn}
+use Rattle.records.specs.Numbers.{numbersAt}
+use Rattle.records.specs.Payloads.{Payload, keys, numberOf, countOf, keysOf, width, kIn, keyAt, firstKeys, keysIn, countIn}
 use Rattle.records.specs.RecordForm.{kindOf, fragmentPayload}
 use Rattle.records.specs.declared.Parts.{Parts}
 use Rattle.records.specs.Answers.{partsOf}
@@ -76,14 +77,14 @@ own-at {tree} {i} row b o = o .are ∙ ap (λ (l : List ℕ). codesIn (headIn l)
 
 -- ---- the keys, one by one
 
-u32s-snoc : (s : List ℕ) (at n : ℕ) → u32s s at (suc n) ≡ u32s s at n ++ u32s s (at + 4 * n) 1
-unfolding u32s
-u32s-snoc s at zero =
-    let e : at + 4 * 0 ≡ at = omega arith in
+numbers-snoc : (w : ℕ) (s : List ℕ) (at n : ℕ) → numbersAt w s at (suc n) ≡ numbersAt w s at n ++ numbersAt w s (at + w * n) 1
+unfolding numbersAt
+numbers-snoc w s at zero =
+    let e : at + w * 0 ≡ at = omega (arith, mul-zero w) in
     rw e
-u32s-snoc s at (suc n) =
-    let e : at + 4 + 4 * n ≡ at + 4 * suc n = omega arith in
-    let rest = u32s-snoc s (at + 4) n in
+numbers-snoc w s at (suc n) =
+    let e : at + w + w * n ≡ at + w * suc n = omega (arith, mul-suc w n) in
+    let rest = numbers-snoc w s (at + w) n in
     rw (rest, e)
 
 map-append : (xs ys : List ℕ) → map keyCode (xs ++ ys) ≡ map keyCode xs ++ map keyCode ys
@@ -96,12 +97,12 @@ pub record KeysOn (bytes : List ℕ) (j n : ℕ) (list : List Var) : Type 0 wher
   pub are : take j list ≡ map keyCode (firstKeys bytes j)
 
 pub keys-begin : (bytes : List ℕ) (n : ℕ) (list : List Var) → length list ≡ 16 → KeysOn bytes 0 n list
-unfolding u32s
+unfolding numbersAt
 keys-begin bytes n list l = record { upto = omega arith; long = l; are = refl }
 
 pub keys-more : {bytes : List ℕ} {j n : ℕ} {list : List Var} → KeysOn bytes j n list → n ≤ 16 → j < n → {k : ℕ} → k ≡ keyAt bytes j
     → KeysOn bytes (j + 1) n (set list j (keyCode k))
-unfolding u32s
+unfolding numbersAt
 keys-more {bytes} {j} {n} {list} on few l {k} e =
     record {
       upto = omega arith;
@@ -111,8 +112,8 @@ keys-more {bytes} {j} {n} {list} on few l {k} e =
           ∙ take-suc-set list j (keyCode k) (omega (arith, on .long))
           ∙ ap (λ (xs : List Var). xs ++ (keyCode k ∷ [])) (on .are)
           ∙ ap (λ (m : ℕ). map keyCode (firstKeys bytes j) ++ (keyCode m ∷ [])) e
-          ∙ sym (map-append (firstKeys bytes j) (u32s bytes (8 + 4 * j) 1))
-          ∙ ap (map keyCode) (sym (u32s-snoc bytes 8 j))
+          ∙ sym (map-append (firstKeys bytes j) (numbersAt (width bytes) bytes (8 + width bytes * j) 1))
+          ∙ ap (map keyCode) (sym (numbers-snoc (width bytes) bytes 8 j))
           ∙ ap (λ (m : ℕ). map keyCode (firstKeys bytes m)) (sym (add-one j));
     }
 

@@ -122,7 +122,7 @@ fn keys_of(bytes: &[u8], n: usize) -> [Var; 16]
     }; 16];
     let mut j = 0;
     while j < n {
-        let number = records::key_at(bytes, j as u16) as u64;
+        let number = records::key_at(bytes, j as u16);
         list[j] = Var { class: 0, number };
         j += 1;
     }
@@ -140,12 +140,12 @@ fn class_of(kind: u16) -> u64
 }
 
 // The one variable of a leaf.
-fn one_of(kind: u16, number: u32) -> Own
+fn one_of(kind: u16, number: u64) -> Own
     ensures { λ r. ⌜ (r .n ≡ 1) × (length (r .list) ≡ 16) × (take 1 (r .list) ≡ code (classIn kind) number ∷ []) ⌝ }
 {
     let x = Var {
         class: class_of(kind),
-        number: number as u64,
+        number,
     };
     Own {
         list: [x; 16],

@@ -1,5 +1,5 @@
 -- Laws on little-endian numbers, over the width. Crates above cite `found`, `missing`, `read-room`, `length-put`, `read-back`,
--- `read-elsewhere`, and what the answers tell, `found16`, `missing16`, `found32`, `missing32`. Assumes nothing.
+-- `read-elsewhere`, and what the answers tell, `found16`, `missing16`, `found32`, `missing32`, `found64`, `missing64`. Assumes nothing.
 use mathlib.Core.Path.{_≡_, refl, sym, ap, subst, _∙_}
 use mathlib.Core.Bool.{Bool, true, false}
 use mathlib.Core.List.{List, [], _∷_, _++_, append-assoc}
@@ -14,12 +14,14 @@ use lib.Dec.{leb}
 use lib.ListN.{length, getD, set, take, drop}
 use lib.Seq.{sets, length-sets, sets-eq, drop-at, take-at, length-take-le}
 use Rattle.words.specs.Bytes.{little, bytesOf, hasBytes, whenRead, leAt, whenWritten, putLe}
-use Rattle.words.specs.Answers.{read16, read32}
+use Rattle.words.specs.Answers.{read16, read32, read64}
 use Rattle.words.specs.declared.Read16.{Read16}
 use Rattle.words.specs.declared.Read16.the-variants as Read16
 use Rattle.words.specs.declared.Read32.{Read32}
 use Rattle.words.specs.declared.Read32.the-variants as Read32
-use Rattle.words.proofs.Stores.{sets-below, sets-above}
+use Rattle.words.specs.declared.Read64.{Read64}
+use Rattle.words.specs.declared.Read64.the-variants as Read64
+use Rattle.words.proofs.Stores.{sets-below, sets-above, sets-append}
 
 -- ---- whether the bytes are there
 
@@ -81,6 +83,63 @@ found-4 s at h =
     found 4 s at h
     ∙ ap some (rw (little-next 3 s at, little-next 2 s (at + 1), e₂, little-next 1 s (at + 2), e₃, little-next 0 s (at + 3)) (omega arith))
 
+-- eight bytes are two numbers of four
+little-eight : (s : List ℕ) (at : ℕ)
+    → little (take 8 (drop at s)) ≡ little (take 4 (drop at s)) + little (take 4 (drop (at + 4) s)) * 4294967296
+unfolding little
+little-eight s at =
+    let e₂ : at + 1 + 1 ≡ at + 2 = omega arith in
+    let e₃ : at + 2 + 1 ≡ at + 3 = omega arith in
+    let e₄ : at + 3 + 1 ≡ at + 4 = omega arith in
+    rw (
+      little-next 7 s at,
+      little-next 6 s (at + 1),
+      e₂,
+      little-next 5 s (at + 2),
+      e₃,
+      little-next 4 s (at + 3),
+      e₄,
+      little-next 3 s at,
+      little-next 2 s (at + 1),
+      e₂,
+      little-next 1 s (at + 2),
+      e₃,
+      little-next 0 s (at + 3),
+    ) (omega arith)
+
+at-some : (width : ℕ) (s : List ℕ) (at : ℕ) {v : ℕ} → leAt width s at ≡ some v → v ≡ little (take width (drop at s))
+at-some width s at e =
+    let there = le-leb (at + width) (length s) (read-room width s at e) in
+    some-is (sym e ∙ found width s at there)
+  where
+    some-is : {v w : ℕ} → some v ≡ some w → v ≡ w
+    some-is e = cc
+
+pub found-8 : (s : List ℕ) (at : ℕ) {low high : ℕ} → leAt 4 s at ≡ some low → leAt 4 s (at + 4) ≡ some high
+    → leAt 8 s at ≡ some (low + high * 4294967296)
+found-8 s at l h =
+    let room = read-room 4 s (at + 4) h in
+    found 8 s at (le-leb (at + 8) (length s) (omega arith)) ∙ ap some (rw (at-some 4 s at l, at-some 4 s (at + 4) h) (little-eight s at))
+
+-- where four of them are missing, so are all eight
+pub missing-low : (s : List ℕ) (at : ℕ) → leAt 4 s at ≡ none → leAt 8 s at ≡ none
+missing-low s at e = by-room (hasBytes 8 s at) refl
+  where
+    by-room : (t : Bool) → hasBytes 8 s at ≡ t → leAt 8 s at ≡ none
+    by-room true h =
+        let there = found 4 s at (le-leb (at + 4) (length s) (omega (arith, room 8 s at h))) in
+        cc
+    by-room false h = missing 8 s at h
+
+pub missing-high : (s : List ℕ) (at : ℕ) → leAt 4 s (at + 4) ≡ none → leAt 8 s at ≡ none
+missing-high s at e = by-room (hasBytes 8 s at) refl
+  where
+    by-room : (t : Bool) → hasBytes 8 s at ≡ t → leAt 8 s at ≡ none
+    by-room true h =
+        let there = found 4 s (at + 4) (le-leb (at + 4 + 4) (length s) (omega (arith, room 8 s at h))) in
+        cc
+    by-room false h = missing 8 s at h
+
 -- ---- writing
 
 pub written : (width : ℕ) (s : List ℕ) (at v : ℕ) → hasBytes width s at ≡ true → putLe width s at v ≡ sets s at (bytesOf width v)
@@ -121,6 +180,36 @@ written-4 s at v h f =
     let b₂ : v / 65536 % 256 ≡ v / 256 / 256 % 256 = omega arith in
     let b₃ : v / 16777216 ≡ v / 256 / 256 / 256 % 256 = omega arith in
     rw (e₁, e₂, e₃, b₂, b₃) (sym (written 4 s at v h))
+
+-- eight bytes are written as two numbers of four
+bytes-eight : (a b : ℕ) → a < 4294967296 → bytesOf 8 (a + b * 4294967296) ≡ bytesOf 4 a ++ bytesOf 4 b
+unfolding bytesOf
+bytes-eight a b f =
+    let r₀ : (a + b * 4294967296) % 256 ≡ a % 256 = omega arith in
+    let q₀ : (a + b * 4294967296) / 256 ≡ a / 256 + b * 16777216 = omega arith in
+    let r₁ : (a / 256 + b * 16777216) % 256 ≡ a / 256 % 256 = omega arith in
+    let q₁ : (a / 256 + b * 16777216) / 256 ≡ a / 256 / 256 + b * 65536 = omega arith in
+    let r₂ : (a / 256 / 256 + b * 65536) % 256 ≡ a / 256 / 256 % 256 = omega arith in
+    let q₂ : (a / 256 / 256 + b * 65536) / 256 ≡ a / 256 / 256 / 256 + b * 256 = omega arith in
+    let r₃ : (a / 256 / 256 / 256 + b * 256) % 256 ≡ a / 256 / 256 / 256 % 256 = omega arith in
+    let q₃ : (a / 256 / 256 / 256 + b * 256) / 256 ≡ b = omega arith in
+    rw (r₀, q₀, r₁, q₁, r₂, q₂, r₃, q₃)
+
+pub written-8 : (s : List ℕ) (at v : ℕ) → hasBytes 8 s at ≡ true → putLe 4 (putLe 4 s at (v % 4294967296)) (at + 4) (v / 4294967296) ≡ putLe 8 s at v
+written-8 s at v h =
+    let fits = room 8 s at h in
+    let low : hasBytes 4 s at ≡ true = le-leb (at + 4) (length s) (omega arith) in
+    let first = putLe 4 s at (v % 4294967296) in
+    let long = length-put 4 s at (v % 4294967296) in
+    let high : hasBytes 4 first (at + 4) ≡ true = le-leb (at + 4 + 4) (length first) (omega arith) in
+    written 4 first (at + 4) (v / 4294967296) high
+    ∙ ap (λ (t : List ℕ). sets t (at + 4) (bytesOf 4 (v / 4294967296))) (written 4 s at (v % 4294967296) low)
+    ∙ ap (λ (n : ℕ). sets (sets s at (bytesOf 4 (v % 4294967296))) (at + n) (bytesOf 4 (v / 4294967296)))
+        (sym (length-bytes 4 (v % 4294967296)))
+    ∙ sym (sets-append (bytesOf 4 (v % 4294967296)) (bytesOf 4 (v / 4294967296)) s at)
+    ∙ ap (sets s at) (sym (bytes-eight (v % 4294967296) (v / 4294967296) (omega arith)))
+    ∙ ap (λ (n : ℕ). sets s at (bytesOf 8 n)) (omega (arith, div-add-mod' v 4294967296))
+    ∙ sym (written 8 s at v h)
 
 -- ---- a number written and read
 
@@ -221,3 +310,17 @@ found32 s at e m = some32 (leAt 4 s at) e m
 
 pub missing32 : (s : List ℕ) (at : ℕ) {r : Read32} → r ≡ read32 (leAt 4 s at) → r ≡ Read32.Missing → leAt 4 s at ≡ none
 missing32 s at e m = none32 (leAt 4 s at) e m
+
+some64 : (o : Option ℕ) {r : Read64} {v : ℕ} → r ≡ read64 o → r ≡ Read64.Found v → o ≡ some v
+some64 (some w) e m = cc
+some64 none e m = cc
+
+none64 : (o : Option ℕ) {r : Read64} → r ≡ read64 o → r ≡ Read64.Missing → o ≡ none
+none64 (some w) e m = cc
+none64 none e m = refl
+
+pub found64 : (s : List ℕ) (at : ℕ) {r : Read64} {v : ℕ} → r ≡ read64 (leAt 8 s at) → r ≡ Read64.Found v → leAt 8 s at ≡ some v
+found64 s at e m = some64 (leAt 8 s at) e m
+
+pub missing64 : (s : List ℕ) (at : ℕ) {r : Read64} → r ≡ read64 (leAt 8 s at) → r ≡ Read64.Missing → leAt 8 s at ≡ none
+missing64 s at e m = none64 (leAt 8 s at) e m

@@ -1,5 +1,5 @@
 -- Little-endian numbers of any width in a list of bytes: document 01, "Records" (lengths, kinds and child numbers are u16; keys, locks
--- and weights are u32). Assumes nothing.
+-- and weights are u32), and document 02, R-3 (keys may be u64). Assumes nothing.
 use mathlib.Core.Bool.{Bool, true, false}
 use mathlib.Core.List.{List, [], _∷_}
 use mathlib.Core.Option.{Option, none, some}

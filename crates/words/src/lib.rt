@@ -6,7 +6,7 @@
 ghost use mathlib.Core.Path.{_≡_};
 ghost use Rattle.words.specs.Floats.{wordOfFloat, floatOfWord, isCost};
 ghost use Rattle.words.specs.Bytes.{hasBytes, leAt, putLe};
-ghost use Rattle.words.specs.Answers.{read16, read32};
+ghost use Rattle.words.specs.Answers.{read16, read32, read64};
 ghost use Rattle.words.specs.Memory.{zeroed};
 
 // The word of every NaN.
@@ -62,6 +62,12 @@ pub enum Read32 {
     Missing,
 }
 
+// What reading a u64 finds.
+pub enum Read64 {
+    Found(u64),
+    Missing,
+}
+
 // Whether s holds `width` bytes from `at` on.
 pub fn has_bytes(s: &[u8], at: usize, width: usize) -> bool
     ensures { λ r. ⌜ r ≡ hasBytes width (now (s .entry)) at ⌝ }
@@ -98,6 +104,19 @@ pub fn u32_at(s: &[u8], at: usize) -> Read32
     Read32::Missing
 }
 
+// The little-endian u64 at `at`, if all eight bytes are there.
+pub fn u64_at(s: &[u8], at: usize) -> Read64
+    ensures { λ r. ⌜ r ≡ read64 (leAt 8 (now (s .entry)) at) ⌝ }
+{
+    match u32_at(s, at) {
+        Read32::Found(low) => match u32_at(s, at + 4) {
+            Read32::Found(high) => Read64::Found(low as u64 + high as u64 * 0x1_0000_0000),
+            Read32::Missing => Read64::Missing,
+        },
+        Read32::Missing => Read64::Missing,
+    }
+}
+
 // Writes v at `at`, little-endian, and says true; where two bytes are not there it writes nothing and says false.
 pub fn put_u16(s: &mut [u8], at: usize, v: u16) -> bool
     ensures { λ r. ⌜ r ≡ hasBytes 2 (now (s .entry)) at ⌝ }
@@ -121,6 +140,19 @@ pub fn put_u32(s: &mut [u8], at: usize, v: u32) -> bool
         s[at + 1] = (v / 256 % 256) as u8;
         s[at + 2] = (v / 65536 % 256) as u8;
         s[at + 3] = (v / 16777216) as u8;
+        return true;
+    }
+    false
+}
+
+// Writes v at `at`, little-endian, and says true; where eight bytes are not there it writes nothing and says false.
+pub fn put_u64(s: &mut [u8], at: usize, v: u64) -> bool
+    ensures { λ r. ⌜ r ≡ hasBytes 8 (now (s .entry)) at ⌝ }
+    ensures { λ _. ⌜ now (s .exit) ≡ putLe 8 (now (s .entry)) at v ⌝ }
+{
+    if has_bytes(s, at, 8) {
+        put_u32(s, at, (v % 0x1_0000_0000) as u32);
+        put_u32(s, at + 4, (v / 0x1_0000_0000) as u32);
         return true;
     }
     false

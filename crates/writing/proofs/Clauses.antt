@@ -44,6 +44,6 @@ unfolding written owns
 written-three n kind t u v = simp (append-nil, append-assoc)
 
 -- Check over PkK
-whole-case : bytesOfTree (Check (PkK 7)) ≡ 8 ∷ 0 ∷ 0x22 ∷ 0 ∷ 7 ∷ 0 ∷ 0 ∷ 0 ∷ 6 ∷ 0 ∷ 0x2C ∷ 0 ∷ 0 ∷ 0 ∷ []
+whole-case : bytesOfTree (Check (PkK 7)) ≡ 12 ∷ 0 ∷ 0x54 ∷ 0 ∷ 7 ∷ 0 ∷ 0 ∷ 0 ∷ 0 ∷ 0 ∷ 0 ∷ 0 ∷ 6 ∷ 0 ∷ 0x2C ∷ 0 ∷ 0 ∷ 0 ∷ []
 unfolding nodeOf written count owns inRow bytesOf
 whole-case = refl

@@ -7,6 +7,7 @@ use native.Mathlib.Nat.{zero-add, add-assoc}
 use native.Mathlib.Omega.{arith}
 use lib.ListN.{length, take, drop, replicate, length-append}
 use lib.Seq.{take-at, drop-at}
+use Rattle.records.specs.Shapes.{meant}
 use Rattle.records.specs.Payloads.{Payload, childrenOf}
 use Rattle.records.specs.RecordForm.{recordLength, kindOf, fragmentPayload}
 use Rattle.records.proofs.Laws.{length-bounds}
@@ -49,7 +50,7 @@ module _ {A : Type 0} (make : ℕ → Payload → List A → Answer A) where
     pub few : length front + 2 * length xs < 65532
     pub says : (cs : List ℕ) → length cs ≡ length xs → AllBelow 65536 cs
         → (payload : Payload) × (fragmentPayload (recordOf kind (front ++ inRow 2 cs)) ≡ some payload) × (childrenOf payload ≡ cs)
-        × (make kind payload xs ≡ done x)
+        × (make (meant kind) payload xs ≡ done x)
 
   -- a node's records are read, wherever they stand
   pub record Reads (t : Node) (x : A) : Type 0 where
@@ -84,7 +85,7 @@ module _ {A : Type 0} (make : ℕ → Payload → List A → Answer A) where
           let emptied = slots ++ replicate {A = Option A} (counts ts) none in
           let taken : takeAll (childrenOf (told .0)) (slots ++ traces ts xs) ≡ some (record { those = xs; left = emptied }) =
           rw (told .2) (take-nodes rs n slots e) in
-          let added = made (slots ++ traces ts xs) emptied (recordOf kind payload) kind
+          let added = made (slots ++ traces ts xs) emptied (recordOf kind payload) (meant kind)
           (record-kind kind payload (said .is-u16)) (told .1) taken (told .3) in
           let fuel : counts ts + 1 + left ≡ counts ts + suc left = omega arith in
           rw (fuel, append-assoc (writtenAll n ts) (recordOf kind payload) rest)

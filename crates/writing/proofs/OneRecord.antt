@@ -1,6 +1,6 @@
 -- A record that is written, read: its length, its kind, and its payload by its shape. Assumes nothing.
 use mathlib.Core.Path.{_≡_, refl, sym, ap, _∙_}
-use mathlib.Core.Bool.{true}
+use mathlib.Core.Bool.{true, cond}
 use mathlib.Core.List.{List, [], _∷_, _++_, append-assoc, append-nil}
 use mathlib.Core.Option.{some}
 use Prim.Native.Nat.{ℕ, _+_, _*_, _^_, _<_}
@@ -10,14 +10,16 @@ use lib.Dec.{eqb}
 use lib.ListN.{length, length-append}
 use Rattle.words.specs.Bytes.{bytesOf}
 use Rattle.words.proofs.Bytes.{length-bytes}
-use Rattle.records.specs.Numbers.{u16, u32, u16s, u32s, maxLock, maxCount}
-use Rattle.records.specs.Payloads.{number, children, threshold, keys, thresholdFits, childrenPayload, payloadOf}
+use Rattle.records.specs.Numbers.{numberAt, u16, u16s, numbersAt, maxLock, maxCount}
+use Rattle.records.specs.Shapes.{isLong, meant}
+use Rattle.records.specs.Payloads.{number, children, threshold, keys, writtenKind, width, numberIn, keysIn}
+use Rattle.records.specs.Payloads.{thresholdFits, childrenPayload, payloadOf}
 use Rattle.records.specs.RecordForm.{recordLength, kindOf}
 use Rattle.records.specs.declared.Shape.{Shape}
 use Rattle.records.specs.declared.Shape.the-variants as Shape
 use Rattle.writing.specs.Writing.{recordOf, inRow, kAndN}
-use Rattle.writing.specs.WellFormed.{AllBelow, IsU32, IsLock, IsThreshold}
-use Rattle.writing.proofs.Rows.{number-at, length-row, u16s-back, u32s-back}
+use Rattle.writing.specs.WellFormed.{AllBelow, IsLock, IsThreshold}
+use Rattle.writing.proofs.Rows.{number-at, length-row, u16s-back, numbers-back}
 
 module _ (kind : ℕ) (payload : List ℕ) where
   -- its length and its kind
@@ -49,9 +51,17 @@ module _ (kind : ℕ) (payload : List ℕ) where
         le-leb (4 + length payload) (length (recordOf kind payload ++ rest)) (omega (arith, length-record)),
       )
 
-  pub record-kind : kind < 65536 → kindOf (recordOf kind payload) ≡ kind
-  record-kind fits =
+  record-written : kind < 65536 → writtenKind (recordOf kind payload) ≡ kind
+  record-written fits =
       rw (number-at 2 kind (bytesOf 2 (4 + length payload)) payload 2 (length-bytes 2 (4 + length payload)) fits)
+
+  pub record-kind : kind < 65536 → kindOf (recordOf kind payload) ≡ meant kind
+  unfolding kindOf
+  record-kind fits = ap meant (record-written fits)
+
+  pub record-width : kind < 65536 → width (recordOf kind payload) ≡ cond (isLong kind) 8 4
+  unfolding width
+  record-width fits = ap (λ (n : ℕ). cond (isLong n) 8 4) (record-written fits)
 
   -- the rest of a payload, and where it stands
   pub record-rest : (front rest : List ℕ) → payload ≡ front ++ rest → recordOf kind payload ≡ (head ++ front) ++ rest
@@ -67,32 +77,49 @@ module _ (kind : ℕ) (payload : List ℕ) where
         ap (λ (s : List ℕ). u16s s at (length ns)) (record-rest front (inRow 2 ns ++ after) e)
         ∙ u16s-back ns (head ++ front) after at (length-front front ∙ place) below
 
-    pub u32s-in : payload ≡ front ++ (inRow 4 ns ++ after) → AllBelow (2 ^ 32) ns → u32s (recordOf kind payload) at (length ns) ≡ ns
-    u32s-in e below =
-        ap (λ (s : List ℕ). u32s s at (length ns)) (record-rest front (inRow 4 ns ++ after) e)
-        ∙ u32s-back ns (head ++ front) after at (length-front front ∙ place) below
+    pub numbers-in : (w : ℕ) → payload ≡ front ++ (inRow w ns ++ after) → AllBelow (256 ^ w) ns
+        → numbersAt w (recordOf kind payload) at (length ns) ≡ ns
+    numbers-in w e below =
+        ap (λ (s : List ℕ). numbersAt w s at (length ns)) (record-rest front (inRow w ns ++ after) e)
+        ∙ numbers-back w ns (head ++ front) after at (length-front front ∙ place) below
 
 -- ---- payloads, by their shapes
 
-module _ (kind : ℕ) where
-  number-read : (n : ℕ) → IsU32 n → u32 (recordOf kind (bytesOf 4 n)) 4 ≡ n
-  unfolding inRow AllBelow u32s
+-- a kind whose numbers have so many bytes
+pub record Wide (kind w : ℕ) : Type 0 where
+  pub is-u16 : kind < 65536
+  pub is : cond (isLong kind) 8 4 ≡ w
+
+module _ (kind w : ℕ) (wide : Wide kind w) where
+  its-width : (payload : List ℕ) → width (recordOf kind payload) ≡ w
+  its-width payload = record-width kind payload (wide .is-u16) ∙ wide .is
+
+  number-read : (n : ℕ) → n < 256 ^ w → numberIn (recordOf kind (bytesOf w n)) ≡ n
+  unfolding inRow AllBelow numbersAt
   number-read n fits =
-      let row : bytesOf 4 n ≡ [] ++ (inRow 4 (n ∷ []) ++ []) = sym (append-nil (bytesOf 4 n ++ []) ∙ append-nil (bytesOf 4 n)) in
-      let read : u32 (recordOf kind (bytesOf 4 n)) 4 ∷ [] ≡ n ∷ [] = u32s-in kind (bytesOf 4 n) [] (n ∷ []) [] 4 refl row (fits, tt) in
-      cc
+      let s = recordOf kind (bytesOf w n) in
+      let row : bytesOf w n ≡ [] ++ (inRow w (n ∷ []) ++ []) = sym (append-nil (bytesOf w n ++ []) ∙ append-nil (bytesOf w n)) in
+      let read : numberAt w s 4 ∷ [] ≡ n ∷ [] = numbers-in kind (bytesOf w n) [] (n ∷ []) [] 4 refl w row (fits, tt) in
+      let first : numberAt w s 4 ≡ n = cc in
+      ap (λ (v : ℕ). numberAt v s 4) (its-width (bytesOf w n)) ∙ first
 
-  number-length : (n : ℕ) → eqb (length (recordOf kind (bytesOf 4 n))) 8 ≡ true
-  number-length n =
-      eq-eqb (length (recordOf kind (bytesOf 4 n))) 8 (omega (arith, length-record kind (bytesOf 4 n), length-bytes 4 n))
+  number-length : (n : ℕ) → length (recordOf kind (bytesOf w n)) ≡ 4 + w
+  number-length n = omega (arith, length-record kind (bytesOf w n), length-bytes w n)
 
-  pub number-back : (n : ℕ) → IsU32 n → payloadOf Shape.Number (recordOf kind (bytesOf 4 n)) ≡ some (number n)
+  pub number-back : (n : ℕ) → n < 256 ^ w → payloadOf Shape.Number (recordOf kind (bytesOf w n)) ≡ some (number n)
   unfolding payloadOf
-  number-back n fits = rw (number-length n, number-read n fits)
+  number-back n fits =
+      let s = recordOf kind (bytesOf w n) in
+      let long : eqb (length s) (4 + width s) ≡ true =
+      eq-eqb (length s) (4 + width s) (number-length n ∙ ap (λ (v : ℕ). 4 + v) (sym (its-width (bytesOf w n)))) in
+      rw (long, number-read n fits)
 
-  pub lock-back : (n : ℕ) → IsLock n → payloadOf Shape.Lock (recordOf kind (bytesOf 4 n)) ≡ some (number n)
+module _ (kind : ℕ) where
+  pub lock-back : Wide kind 4 → (n : ℕ) → IsLock n → payloadOf Shape.Lock (recordOf kind (bytesOf 4 n)) ≡ some (number n)
   unfolding payloadOf
-  lock-back n fits = rw (number-length n, number-read n (omega arith), le-leb 1 n (fits .0), le-leb n maxLock (fits .1))
+  lock-back wide n fits =
+      let s = recordOf kind (bytesOf 4 n) in
+      rw (eq-eqb (length s) 8 (number-length kind 4 wide n), number-read kind 4 wide n (omega arith), le-leb 1 n (fits .0), le-leb n maxLock (fits .1))
 
   pub children-back : (cs : List ℕ) → AllBelow 65536 cs → childrenPayload (length cs) (recordOf kind (inRow 2 cs)) ≡ some (children cs)
   children-back cs below =
@@ -144,10 +171,15 @@ module _ (kind : ℕ) where
       let row = u16s-in kind (front ++ inRow 2 cs) front cs [] 8 (row-place 2 k cs) (row-last 2 k cs) below in
       rw (threshold-fits 2 k cs fits, k-and-n 2 k cs fits .0, k-and-n 2 k cs fits .1, row)
 
-  pub keys-back : (k : ℕ) (ks : List ℕ) → IsThreshold k (length ks) → AllBelow (2 ^ 32) ks
-      → payloadOf Shape.Keys (thresholdRecord 4 k ks) ≡ some (keys k ks)
+  pub keys-back : (w : ℕ) → Wide kind w → (k : ℕ) (ks : List ℕ) → IsThreshold k (length ks) → AllBelow (256 ^ w) ks
+      → payloadOf Shape.Keys (thresholdRecord w k ks) ≡ some (keys k ks)
   unfolding payloadOf
-  keys-back k ks fits below =
+  keys-back w wide k ks fits below =
       let front = kAndN k (length ks) in
-      let row = u32s-in kind (front ++ inRow 4 ks) front ks [] 8 (row-place 4 k ks) (row-last 4 k ks) below in
-      rw (threshold-fits 4 k ks fits, k-and-n 4 k ks fits .0, k-and-n 4 k ks fits .1, row)
+      let s = thresholdRecord w k ks in
+      let row = numbers-in kind (front ++ inRow w ks) front ks [] 8 (row-place w k ks) w (row-last w k ks) below in
+      let fit : thresholdFits (width s) s ≡ true =
+      ap (λ (v : ℕ). thresholdFits v s) (its-width kind w wide (front ++ inRow w ks)) ∙ threshold-fits w k ks fits in
+      let read : keysIn s ≡ ks =
+      ap (λ (v : ℕ). numbersAt v s 8 (u16 s 6)) (its-width kind w wide (front ++ inRow w ks)) ∙ rw (k-and-n w k ks fits .1) row in
+      rw (fit, k-and-n w k ks fits .0, read)

@@ -10,7 +10,7 @@ use lib.ListN.{length, drop, length-append}
 use lib.Seq.{sets-eq, take-at, drop-at}
 use Rattle.words.specs.Bytes.{bytesOf, hasBytes, leAt, putLe}
 use Rattle.words.proofs.Bytes.{length-bytes, written, read-back}
-use Rattle.records.specs.Numbers.{orZero, u16s, u32s}
+use Rattle.records.specs.Numbers.{orZero, u16s, numbersAt}
 use Rattle.writing.specs.Writing.{inRow}
 use Rattle.writing.specs.WellFormed.{AllBelow}
 
@@ -65,6 +65,7 @@ pub u16s-back : (ns p q : List ℕ) (at : ℕ) → length p ≡ at → AllBelow 
 unfolding u16s
 u16s-back = row-back 2 u16s (λ s at. refl) (λ s at n. refl)
 
-pub u32s-back : (ns p q : List ℕ) (at : ℕ) → length p ≡ at → AllBelow (2 ^ 32) ns → u32s (p ++ (inRow 4 ns ++ q)) at (length ns) ≡ ns
-unfolding u32s
-u32s-back = row-back 4 u32s (λ s at. refl) (λ s at n. refl)
+pub numbers-back : (width : ℕ) (ns p q : List ℕ) (at : ℕ) → length p ≡ at → AllBelow (256 ^ width) ns
+    → numbersAt width (p ++ (inRow width ns ++ q)) at (length ns) ≡ ns
+unfolding numbersAt
+numbers-back width = row-back width (numbersAt width) (λ s at. refl) (λ s at n. refl)

@@ -1,5 +1,5 @@
 -- Whatever is read is well formed: specs/ReadBack.antt. Assumes nothing.
-use mathlib.Core.Path.{_≡_, refl, ap, subst, _∙_}
+use mathlib.Core.Path.{_≡_, refl, sym, ap, subst, _∙_}
 use mathlib.Core.Bool.{Bool, true, false}
 use mathlib.Core.List.{List, [], _∷_}
 use mathlib.Core.Option.{some}
@@ -8,20 +8,21 @@ use native.Mathlib.Nat.{pow-suc}
 use native.Mathlib.Omega.{arith}
 use lib.ListN.{length, take, drop, length-take}
 use Rattle.words.specs.Bytes.{little, hasBytes, whenRead, leAt}
-use Rattle.records.specs.Numbers.{orZero, u16, u32, u32s}
-use Rattle.records.specs.Shapes.{lookUp, shapeOf}
-use Rattle.records.specs.Payloads.{Payload, payloadOf, childrenOf}
+use Rattle.records.specs.Numbers.{orZero, numberAt, u16, u32, numbersAt}
+use Rattle.records.specs.Shapes.{lookUp, isLong, shapeOf}
+use Rattle.records.specs.Payloads.{Payload, writtenKind, width, numberIn, keysIn, payloadOf, childrenOf}
 use Rattle.records.specs.RecordForm.{kindOf, fragmentPayload}
 use Rattle.records.specs.declared.Shape.{Shape}
 use Rattle.records.specs.declared.Shape.the-variants as Shape
 use Rattle.records.proofs.Laws.{fragment-record, is-number, is-lock, is-threshold, is-keys, lock-bounds, threshold-bounds, keys-bounds}
+use Rattle.records.proofs.Widths.{width-long, width-short, short-fragment}
 use Rattle.contexts.specs.Leaves.{After, Older, Sha256, Hash256, Ripemd160, Hash160}
 use Rattle.trees.specs.Fragment.{Fragment, toList, False, True, PkK, PkH, Lock, Hash}
 use Rattle.trees.specs.Fragment.{Alt, Swap, Check, DupIf, Verify, NonZero, ZeroNotEqual}
 use Rattle.trees.specs.Fragment.{AndB, AndV, OrB, OrD, OrC, OrI, AndOr, Thresh, Multi, MultiA}
 use Rattle.trees.specs.Reading.{readTree}
 use Rattle.trees.specs.Tree.{Maker, plain, withNumber, one, two, three, ofChildren, ofKeys, fragments, makers, makeFragment, treeOf}
-use Rattle.writing.specs.WellFormed.{AllBelow, IsU32, IsLock, IsThreshold, WellFormed, AllWellFormed}
+use Rattle.writing.specs.WellFormed.{AllBelow, IsU32, IsU64, IsLock, IsThreshold, WellFormed, AllWellFormed}
 use Rattle.writing.specs.ReadBack.{ReadsWellFormed}
 use Rattle.writing.proofs.Kept.{All, AllHeld, Makes, below-take, below-drop, read-holds}
 use Rattle.writing.proofs.Makers.{AllLines, no-line, _⊗_, found-maker}
@@ -42,21 +43,52 @@ little-below (suc width) (b ∷ s) l h =
     let q = little-below width s (omega arith) (h .1) in
     omega arith
 
-pub u32-below : (s : List ℕ) (at : ℕ) → AllBelow 256 s → IsU32 (u32 s at)
+some-power : (w : ℕ) → 0 < 256 ^ w
+unfolding little AllBelow
+some-power w = little-below w [] (omega arith) tt
+
+pub number-below : (w : ℕ) (s : List ℕ) (at : ℕ) → AllBelow 256 s → numberAt w s at < 256 ^ w
 unfolding leAt
-u32-below s at h = by-room (hasBytes 4 s at)
+number-below w s at h = by-room (hasBytes w s at)
   where
     bytes : List ℕ
-    bytes = take 4 (drop at s)
+    bytes = take w (drop at s)
 
-    by-room : (room : Bool) → IsU32 (orZero (whenRead room (little bytes)))
-    by-room true = little-below 4 bytes (omega (arith, length-take 4 (drop at s))) (below-take 256 4 (drop at s) (below-drop 256 at s h))
-    by-room false = omega arith
+    by-room : (room : Bool) → orZero (whenRead room (little bytes)) < 256 ^ w
+    by-room true = little-below w bytes (omega (arith, length-take w (drop at s))) (below-take 256 w (drop at s) (below-drop 256 at s h))
+    by-room false = omega (arith, some-power w)
 
-u32s-below : (s : List ℕ) (at n : ℕ) → AllBelow 256 s → AllBelow (2 ^ 32) (u32s s at n)
-unfolding u32s AllBelow
-u32s-below s at zero h = tt
-u32s-below s at (suc n) h = (u32-below s at h, u32s-below s (at + 4) n h)
+numbers-below : (w : ℕ) (s : List ℕ) (at n : ℕ) → AllBelow 256 s → AllBelow (256 ^ w) (numbersAt w s at n)
+unfolding numbersAt AllBelow
+numbers-below w s at zero h = tt
+numbers-below w s at (suc n) h = (number-below w s at h, numbers-below w s (at + w) n h)
+
+-- a number of a record has at most eight bytes
+by-width : (s : List ℕ) (P : ℕ → Type 0) → P 4 → P 8 → P (width s)
+by-width s P four eight = by-test (isLong (writtenKind s)) refl
+  where
+    by-test : (t : Bool) → isLong (writtenKind s) ≡ t → P (width s)
+    by-test true e = subst P (sym (width-long s e)) eight
+    by-test false e = subst P (sym (width-short s e)) four
+
+all-higher : (low high : ℕ) (ns : List ℕ) → low ≤ high → AllBelow low ns → AllBelow high ns
+unfolding AllBelow
+all-higher low high [] l h = tt
+all-higher low high (n ∷ ns) l h = (omega (arith, h .0), all-higher low high ns l (h .1))
+
+pub key-below : (s : List ℕ) → AllBelow 256 s → IsU64 (numberIn s)
+key-below s h =
+    by-width s (λ w. numberAt w s 4 < 2 ^ 64) (omega (arith, number-below 4 s 4 h)) (number-below 8 s 4 h)
+
+keys-below : (s : List ℕ) → AllBelow 256 s → AllBelow (2 ^ 64) (keysIn s)
+keys-below s h =
+    by-width s (λ w. AllBelow (2 ^ 64) (numbersAt w s 8 (u16 s 6)))
+    (all-higher (2 ^ 32) (2 ^ 64) (numbersAt 4 s 8 (u16 s 6)) (omega arith) (numbers-below 4 s 8 (u16 s 6) h))
+    (numbers-below 8 s 8 (u16 s 6) h)
+
+-- of a kind with short numbers it is a u32
+pub short-below : (s : List ℕ) → AllBelow 256 s → width s ≡ 4 → IsU32 (numberIn s)
+short-below s h e = rw e (number-below 4 s 4 h)
 
 -- ---- makers
 
@@ -74,24 +106,31 @@ module _ (kind : ℕ) where
   plain-fine : (f : Fragment) → WellFormed f → Fine kind (plain f)
   plain-fine f w s payload xs x bytes k e l m all = rw (plain-made f payload xs m .1) w
 
-  number-fine : shapeOf kind ≡ some Shape.Number → (f : ℕ → Fragment) → ((n : ℕ) → IsU32 n → WellFormed (f n)) → Fine kind (withNumber f)
-  number-fine known f w s payload xs x bytes k e l m all =
+  key-fine : shapeOf kind ≡ some Shape.Number → (f : ℕ → Fragment) → ((n : ℕ) → IsU64 n → WellFormed (f n)) → Fine kind (withNumber f)
+  key-fine known f w s payload xs x bytes k e l m all =
       let this = is-number s (shape-known kind s known k e) in
-      rw (number-made f payload xs m .1, this) (w (u32 s 4) (u32-below s 4 bytes))
+      rw (number-made f payload xs m .1, this) (w (numberIn s) (key-below s bytes))
+
+  hash-fine : 38 ≤ kind → kind ≤ 41 → shapeOf kind ≡ some Shape.Number → (f : ℕ → Fragment) → ((n : ℕ) → IsU32 n → WellFormed (f n))
+      → Fine kind (withNumber f)
+  hash-fine low high known f w s payload xs x bytes k e l m all =
+      let this = is-number s (shape-known kind s known k e) in
+      rw (number-made f payload xs m .1, this)
+      (w (numberIn s) (short-below s bytes (short-fragment s (omega (arith, k)) (omega (arith, k)))))
 
   lock-fine : shapeOf kind ≡ some Shape.Lock → (f : ℕ → Fragment) → ((n : ℕ) → IsLock n → WellFormed (f n)) → Fine kind (withNumber f)
   lock-fine known f w s payload xs x bytes k e l m all =
       let shaped = shape-known kind s known k e in
       let this = is-lock s shaped in
-      rw (number-made f payload xs m .1, this) (w (u32 s 4) (lock-bounds s (shaped ∙ ap some this)))
+      rw (number-made f payload xs m .1, this) (w (numberIn s) (lock-bounds s (shaped ∙ ap some this)))
 
   keys-fine : shapeOf kind ≡ some Shape.Keys → (f : ℕ → List ℕ → Fragment)
-      → ((k : ℕ) (ks : List ℕ) → IsThreshold k (length ks) × AllBelow (2 ^ 32) ks → WellFormed (f k ks)) → Fine kind (ofKeys f)
+      → ((k : ℕ) (ks : List ℕ) → IsThreshold k (length ks) × AllBelow (2 ^ 64) ks → WellFormed (f k ks)) → Fine kind (ofKeys f)
   keys-fine known f w s payload xs x bytes k e l m all =
       let shaped = shape-known kind s known k e in
       let this = is-keys s shaped in
       let bounds = keys-bounds s (shaped ∙ ap some this) in
-      rw (keys-made f payload xs m .1, this) (w (u16 s 4) (u32s s 8 (u16 s 6)) (bounds, u32s-below s 8 (u16 s 6) bytes))
+      rw (keys-made f payload xs m .1, this) (w (u16 s 4) (keysIn s) (bounds, keys-below s bytes))
 
   one-fine : (f : Fragment → Fragment) → ((x : Fragment) → WellFormed x → WellFormed (f x)) → Fine kind (one f)
   unfolding All
@@ -142,14 +181,14 @@ unfolding WellFormed shapeOf lookUp
 makers-fine =
     plain-fine 32 False tt
     ⊗ plain-fine 33 True tt
-    ⊗ number-fine 34 refl PkK (λ n w. w)
-    ⊗ number-fine 35 refl PkH (λ n w. w)
+    ⊗ key-fine 34 refl PkK (λ n w. w)
+    ⊗ key-fine 35 refl PkH (λ n w. w)
     ⊗ lock-fine 36 refl (Lock After) (λ n w. w)
     ⊗ lock-fine 37 refl (Lock Older) (λ n w. w)
-    ⊗ number-fine 38 refl (Hash Sha256) (λ n w. w)
-    ⊗ number-fine 39 refl (Hash Hash256) (λ n w. w)
-    ⊗ number-fine 40 refl (Hash Ripemd160) (λ n w. w)
-    ⊗ number-fine 41 refl (Hash Hash160) (λ n w. w)
+    ⊗ hash-fine 38 (omega arith) (omega arith) refl (Hash Sha256) (λ n w. w)
+    ⊗ hash-fine 39 (omega arith) (omega arith) refl (Hash Hash256) (λ n w. w)
+    ⊗ hash-fine 40 (omega arith) (omega arith) refl (Hash Ripemd160) (λ n w. w)
+    ⊗ hash-fine 41 (omega arith) (omega arith) refl (Hash Hash160) (λ n w. w)
     ⊗ one-fine 42 Alt (λ x w. w)
     ⊗ one-fine 43 Swap (λ x w. w)
     ⊗ one-fine 44 Check (λ x w. w)

@@ -1,5 +1,5 @@
--- When a fragment tree can be written as records, from document 01, "Records": keys and hashes are u32, locks hold 1 to 2,147,483,647, and
--- 1 ≤ k ≤ n ≤ 16 for the n children or keys of a threshold.
+-- When a fragment tree can be written as records, from document 01, "Records", and document 02, R-3: keys are u64, hashes u32, locks hold 1
+-- to 2,147,483,647, and 1 ≤ k ≤ n ≤ 16 for the n children or keys of a threshold.
 use mathlib.Core.List.{List, [], _∷_}
 use Prim.Native.Nat.{ℕ, _^_, _<_, _≤_}
 use lib.ListN.{length}
@@ -10,6 +10,9 @@ use Rattle.trees.specs.Fragment.{AndB, AndV, OrB, OrD, OrC, OrI, AndOr, Thresh,
 
 abbrev pub IsU32 : ℕ → Type 0
 IsU32 n = n < 2 ^ 32
+
+abbrev pub IsU64 : ℕ → Type 0
+IsU64 n = n < 2 ^ 64
 
 -- each of some numbers is below a bound
 unfoldable pub AllBelow : (bound : ℕ) → List ℕ → Type 0
@@ -26,8 +29,8 @@ unfoldable mutual
   pub WellFormed : Fragment → Type 0
   WellFormed False = Unit
   WellFormed True = Unit
-  WellFormed (PkK key) = IsU32 key
-  WellFormed (PkH key) = IsU32 key
+  WellFormed (PkK key) = IsU64 key
+  WellFormed (PkH key) = IsU64 key
   WellFormed (Lock kind n) = IsLock n
   WellFormed (Hash kind h) = IsU32 h
   WellFormed (Alt x) = WellFormed x
@@ -45,8 +48,8 @@ unfoldable mutual
   WellFormed (OrI x y) = WellFormed x × WellFormed y
   WellFormed (AndOr x y z) = WellFormed x × WellFormed y × WellFormed z
   WellFormed (Thresh k xs) = IsThreshold k (length (toList xs)) × AllWellFormed xs
-  WellFormed (Multi k keys) = IsThreshold k (length keys) × AllBelow (2 ^ 32) keys
-  WellFormed (MultiA k keys) = IsThreshold k (length keys) × AllBelow (2 ^ 32) keys
+  WellFormed (Multi k keys) = IsThreshold k (length keys) × AllBelow (2 ^ 64) keys
+  WellFormed (MultiA k keys) = IsThreshold k (length keys) × AllBelow (2 ^ 64) keys
 
   pub AllWellFormed : Fragments → Type 0
   AllWellFormed end = Unit

@@ -1,4 +1,5 @@
 -- The records of a fragment tree, from document 01, "Records": post-order, children left to right, a shared node written at each occurrence.
+-- Keys are written in the kinds of 64 bits: document 02, R-3.
 use mathlib.Core.List.{List, [], _∷_, _++_}
 use Prim.Native.Nat.{ℕ, _+_}
 use lib.ListN.{length}
@@ -52,8 +53,8 @@ unfoldable mutual
   pub nodeOf : Fragment → Node
   nodeOf False = leaf 32 []
   nodeOf True = leaf 33 []
-  nodeOf (PkK key) = leaf 34 (bytesOf 4 key)
-  nodeOf (PkH key) = leaf 35 (bytesOf 4 key)
+  nodeOf (PkK key) = leaf 84 (bytesOf 8 key)
+  nodeOf (PkH key) = leaf 85 (bytesOf 8 key)
   nodeOf (Lock kind number) = leaf (lockKind kind) (bytesOf 4 number)
   nodeOf (Hash kind h) = leaf (hashKind kind) (bytesOf 4 h)
   nodeOf (Alt x) = above 42 (nodeOf x ▸ nil)
@@ -71,8 +72,8 @@ unfoldable mutual
   nodeOf (OrI x y) = above 54 (nodeOf x ▸ nodeOf y ▸ nil)
   nodeOf (AndOr x y z) = above 55 (nodeOf x ▸ nodeOf y ▸ nodeOf z ▸ nil)
   nodeOf (Thresh k xs) = node 56 (kAndN k (length (toList xs))) (nodesOf xs)
-  nodeOf (Multi k keys) = leaf 57 (kAndN k (length keys) ++ inRow 4 keys)
-  nodeOf (MultiA k keys) = leaf 58 (kAndN k (length keys) ++ inRow 4 keys)
+  nodeOf (Multi k keys) = leaf 107 (kAndN k (length keys) ++ inRow 8 keys)
+  nodeOf (MultiA k keys) = leaf 108 (kAndN k (length keys) ++ inRow 8 keys)
 
   pub nodesOf : Fragments → Nodes
   nodesOf end = nil

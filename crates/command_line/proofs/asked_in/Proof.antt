@@ -24,6 +24,24 @@ enum-told-5 c = search needs
 enum-told-6 : tie.Need-enum-told-6
 enum-told-6 c = search needs
 
+enum-told-7 : tie.Need-enum-told-7
+enum-told-7 c = search needs
+
+enum-told-8 : tie.Need-enum-told-8
+enum-told-8 c = search needs
+
+enum-told-9 : tie.Need-enum-told-9
+enum-told-9 c = search needs
+
+enum-told-10 : tie.Need-enum-told-10
+enum-told-10 c = search needs
+
+enum-told-11 : tie.Need-enum-told-11
+enum-told-11 c = search needs
+
+enum-told-12 : tie.Need-enum-told-12
+enum-told-12 c = search needs
+
 returns : tie.Need-returns
 returns c = simp (c .enum-told .given .1, c .before .before .before .context .given .1)
 
@@ -37,10 +55,28 @@ returns-4 : tie.Need-returns-4
 returns-4 c = simp (c .enum-told4 .given .1, c .before .before .before .context .given .1)
 
 returns-5 : tie.Need-returns-5
-returns-5 c = search needs
+returns-5 c = simp (c .enum-told5 .given .1, c .before .before .before .context .given .1)
 
 returns-6 : tie.Need-returns-6
-returns-6 c = search needs
+returns-6 c = simp (c .enum-told6 .given .1, c .before .before .before .context .given .1)
+
+returns-7 : tie.Need-returns-7
+returns-7 c = simp (c .enum-told7 .given .1, c .before .before .before .context .given .1)
+
+returns-8 : tie.Need-returns-8
+returns-8 c = simp (c .enum-told8 .given .1, c .before .before .before .context .given .1)
+
+returns-9 : tie.Need-returns-9
+returns-9 c = simp (c .enum-told9 .given .1, c .before .before .before .context .given .1)
+
+returns-10 : tie.Need-returns-10
+returns-10 c = simp (c .enum-told10 .given .1, c .before .before .before .context .given .1)
+
+returns-11 : tie.Need-returns-11
+returns-11 c = search needs
+
+returns-12 : tie.Need-returns-12
+returns-12 c = search needs
 
 pub asked-in-spec : {M : Type 1} → statement M
 asked-in-spec =
@@ -53,9 +89,21 @@ asked-in-spec =
     enum-told-4
     enum-told-5
     enum-told-6
+    enum-told-7
+    enum-told-8
+    enum-told-9
+    enum-told-10
+    enum-told-11
+    enum-told-12
     returns
     returns-2
     returns-3
     returns-4
     returns-5
-    returns-6)
+    returns-6
+    returns-7
+    returns-8
+    returns-9
+    returns-10
+    returns-11
+    returns-12)

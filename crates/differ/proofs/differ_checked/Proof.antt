@@ -47,8 +47,7 @@ returns c =
     let pre = c .before .before .before .before .before .before .before .before .before .before .before .before .before .before .before .before .pre in
     let check-both = c .before .before .before .before .before .before .before .before .before .before .check-both in
     let if1 = c .before .before .before .before .before .before .before .if1 in
-    let differ-in = c .before .before .before .before .differ-in in
-    (
+    let differ-in = c .before .before .before .before .differ-in in (
       gives-as (differ-done (args .context) (args .left .now) (args .right .now) (args .out .now) (args .work .now) pre (check-both .ensures .0 .passes (if1 .taken))) (differ-in .ensures .0),
       differ-in .ensures .1 ∙ joined-long 4096 8192 refl (args .work .now) (check-both .last .1 .1 .1 .0) pre (check-both .ensures .1 ∙ first-long 4096 8192 refl (args .work .now) pre) ∙ sym pre,
     )
@@ -64,8 +63,7 @@ returns-2 : tie.Need-returns-2
 returns-2 c =
     let args = c .before .before .before .before .before .before .before .before .before .args in
     let pre = c .before .before .before .before .before .before .before .before .before .pre in
-    let check-both = c .before .before .before .check-both in
-    (
+    let check-both = c .before .before .before .check-both in (
       gives-as (differ-refused (args .context) (args .left .now) (args .right .now) (args .out .now) (args .work .now) pre (check-both .ensures .0 .refuses (c .if1 .left))) (refuses (check-both .result) refl),
       joined-long 4096 8192 refl (args .work .now) (check-both .last .1 .1 .1 .0) pre (check-both .ensures .1 ∙ first-long 4096 8192 refl (args .work .now) pre) ∙ sym pre,
     )

@@ -119,8 +119,7 @@ returns c =
     let pre = c .before .before .before .before .before .before .before .before .before .before .before .before .before .before .before .before .before .before .before .pre in
     let scan = c .before .before .before .before .before .before .before .before .before .before .before .before .before .scan in
     let scan2 = c .before .before .before .before .before .before .before .before .before .scan2 in
-    let differ-roots = c .before .before .differ-roots in
-    (
+    let differ-roots = c .before .before .differ-roots in (
       gives-as (ap (λ (ds : List Difference). fitting (length (args .out .now)) ds) (sym (of-roots (pre .0 .rows) (pre .1 .rows)
           (scan .ensures .counts (pre .0 .root) (pre .0 .rows)) (scan2 .ensures .counts (pre .1 .root) (pre .1 .rows))))) (differ-roots .ensures),
       stored-long (pre .0 .rows) (pre .1 .rows) (args .work .now) (pre .2) (scan .ensures) (scan2 .ensures),

@@ -40,8 +40,7 @@ loop-again c =
     let args = c .before .before .before .before .before .before .before .args in
     let loop = c .before .before .before .before .loop in
     let loop-test = c .before .before .before .loop-test in
-    let key-at = c .before .before .key-at in
-    (
+    let key-at = c .before .before .key-at in (
       keys-more (args .left .now) (args .right .now) (args .count) (loop .j) _ _ (loop .same) (loop-test .taken) (key-at .ensures) (c .before .key-at2 .ensures)
           (c .both .ensures) (loop .inv .0),
       omega (arith, loop-test .taken),

@@ -45,7 +45,7 @@ pair-requires : tie.Need-pair-requires
 pair-requires c κs = let len : length (c .before .before .before .before .before .before .args .t6) ≡ 16 = search needs in let r = c .before .before .before .before .before .before .pre .1 in (small r 0 (omega (arith, len)), small r 1 (omega (arith, len)))
 
 leaf-requires : tie.Need-leaf-requires
-leaf-requires c κs = c .before .before .pre .1 .bounds
+leaf-requires c κs = (c .before .before .pre .1 .lock, c .before .before .pre .1 .bounds)
 
 returns : tie.Need-returns
 returns c = c .and-or .ensures ∙ of-and-or (c .before .before .before .before .before .args .context) (c .before .before .before .before .before .args .kind) (c .before .before .before .before .before .args .number) (c .before .before .before .before .before .args .k) (c .before .before .before .before .before .args .n) (c .before .before .before .before .before .args .t6) (c .before .before .before .before .match .keys1)

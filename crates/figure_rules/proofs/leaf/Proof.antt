@@ -30,10 +30,10 @@ multi-requires : tie.Need-multi-requires
 multi-requires c κs = search needs
 
 multi-a-requires : tie.Need-multi-a-requires
-multi-a-requires c κs = let b = c .before .pre (omega (arith, c .match .keys6)) in (b .0, b .1)
+multi-a-requires c κs = let b = c .before .pre .1 (omega (arith, c .match .keys6)) in (b .0, b .1)
 
 lock-or-hash-requires : tie.Need-lock-or-hash-requires
-lock-or-hash-requires c κs = search needs
+lock-or-hash-requires c κs = c .before .pre .0
 
 returns : tie.Need-returns
 unfolding find

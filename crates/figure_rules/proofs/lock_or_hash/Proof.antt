@@ -1,3 +1,4 @@
+use native.Mathlib.Omega.{arith}
 use borrow.Author.Tests.{ne-eqb}
 use Rattle.trees.specs.Tree.{find}
 use borrow.Author.Needs.{needs}
@@ -12,8 +13,14 @@ use Rattle.figures.proofs.ExtData.older.Reads as older-reads
 use Rattle.figures.proofs.ExtData.ripemd160.Reads as ripemd160-reads
 use Rattle.figures.proofs.ExtData.sha256.Reads as sha256-reads
 
+cast-after : tie.Need-cast-after
+cast-after c = omega (arith, c .before .pre (omega (arith, c .match .keys1)) (omega (arith, c .match .keys1)))
+
 after-requires : tie.Need-after-requires
 after-requires c κs = search needs
+
+cast-older : tie.Need-cast-older
+cast-older c = omega (arith, c .before .pre (omega (arith, c .match .keys2)) (omega (arith, c .match .keys2)))
 
 older-requires : tie.Need-older-requires
 older-requires c κs = search needs
@@ -58,7 +65,9 @@ pub lock-or-hash-spec : {M : Type 1} → statement M
 lock-or-hash-spec =
     tie.close
     (tie.spec
+    cast-after
     after-requires
+    cast-older
     older-requires
     sha256-requires
     hash256-requires

@@ -1,19 +1,19 @@
 -- `index_entry::ahead` meets its contract. Assumes nothing.
 use borrow.Author.Needs.{needs}
-use Prim.Native.Nat.{ℕ, _+_, _-_, _*_, _≤_, _<_}
-use mathlib.Core.Path.{_≡_, refl, sym, subst, _∙_, ap}
+use Prim.Native.Nat.{_+_, _-_, _*_, _≤_}
+use mathlib.Core.Path.{_≡_, refl}
 use native.Mathlib.Omega.{arith}
 use lib.ListN.{getD}
 use Rattle.index_places.specs.Places.{ahead}
-use Rattle.index_entry.specs.Memory.{sizeIn}
+use Rattle.index_memory.specs.Memory.{sizeIn}
 use Rattle.index_entry.proofs.Records.{ahead-begins, ahead-more}
 use Rattle.index_entry.proofs.ahead.Statement.{statement}
 use Rattle.index_entry.proofs.ahead.Tie as tie
 use Rattle.index_entry.proofs.ahead.Reads as reads
 use Rattle.index_entry.proofs.ahead.Lts as lts
-use Rattle.index_entry.proofs.after_size.Reads as after-size-reads
-use Rattle.index_entry.proofs.front_size.Reads as front-size-reads
-use Rattle.index_entry.proofs.size_at.Reads as size-at-reads
+use Rattle.index_sizes.proofs.after_size.Reads as after-size-reads
+use Rattle.index_sizes.proofs.front_size.Reads as front-size-reads
+use Rattle.index_memory.proofs.size_at.Reads as size-at-reads
 use Rattle.script_entry.proofs.child_verified.Reads as child-verified-reads
 use Rattle.script_entry.proofs.place.Reads as place-reads
 

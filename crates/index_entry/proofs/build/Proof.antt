@@ -1,7 +1,6 @@
 -- `index_entry::build` meets its contract. Assumes nothing.
 use Rattle.index_entry.proofs.Promised.{root-there, written, enough, scanned, ready, built}
-use mathlib.Core.Path.{refl, sym, ap, subst, _∙_}
-use native.Mathlib.Omega.{arith}
+use mathlib.Core.Path.{_∙_}
 use borrow.Author.Needs.{needs}
 use Rattle.index_entry.proofs.build.Statement.{statement}
 use Rattle.index_entry.proofs.build.Tie as tie

@@ -4,7 +4,6 @@ use mathlib.Core.Path.{_≡_}
 use Prim.Native.Nat.{_-_, _≤_}
 use Rattle.index_entry.specs.Building.{Filling}
 use native.Mathlib.Omega.{arith}
-use lib.ListN.{length-set}
 use Rattle.index_entry.proofs.fill.Statement.{statement}
 use Rattle.index_entry.proofs.fill.Tie as tie
 use Rattle.index_entry.proofs.fill.Reads as reads

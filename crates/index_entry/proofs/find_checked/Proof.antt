@@ -3,7 +3,7 @@ use Rattle.index_entry.proofs.Lookups.{found, found-refused}
 use Rattle.index_entry.proofs.Promised.{first-long, joined-long, tree-checked}
 use Rattle.claspwillow.proofs.CheckLaws.{same-room}
 use lib.ListN.{take}
-use mathlib.Core.Path.{refl, sym, ap, subst, _∙_}
+use mathlib.Core.Path.{sym, _∙_}
 use borrow.Author.Needs.{needs}
 use Rattle.index_entry.proofs.find_checked.Statement.{statement}
 use Rattle.index_entry.proofs.find_checked.Tie as tie

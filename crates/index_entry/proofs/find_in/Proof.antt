@@ -1,14 +1,14 @@
 -- `index_entry::find_in` meets its contract. Assumes nothing.
 use Rattle.index_entry.proofs.Lookups.{finds-one, finds-none, finds-another}
-use mathlib.Core.Path.{refl, sym, ap, subst, _∙_}
+use mathlib.Core.Path.{refl, sym, _∙_}
 use borrow.Author.Needs.{needs}
 use Rattle.index_entry.proofs.find_in.Statement.{statement}
 use Rattle.index_entry.proofs.find_in.Tie as tie
 use Rattle.index_entry.proofs.find_in.Reads as reads
 use Rattle.index_entry.proofs.find_in.Lts as lts
 use Rattle.index_entry.proofs.build.Reads as build-reads
-use Rattle.index_entry.proofs.first_holding.Reads as first-holding-reads
-use Rattle.index_entry.proofs.same_index.Reads as same-index-reads
+use Rattle.index_memory.proofs.first_holding.Reads as first-holding-reads
+use Rattle.index_memory.proofs.same_index.Reads as same-index-reads
 
 build-requires : tie.Need-build-requires
 build-requires c κs = search needs

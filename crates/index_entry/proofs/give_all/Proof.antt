@@ -4,7 +4,6 @@ use Rattle.index_entry.specs.Building.{Giving}
 use mathlib.Core.Path.{_≡_, subst}
 use Prim.Native.Nat.{ℕ, _≤_}
 use native.Mathlib.Omega.{arith}
-use lib.ListN.{length-set}
 use Rattle.index_entry.proofs.give_all.Statement.{statement}
 use Rattle.index_entry.proofs.give_all.Tie as tie
 use Rattle.index_entry.proofs.give_all.Reads as reads

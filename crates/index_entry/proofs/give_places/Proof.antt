@@ -4,13 +4,12 @@ use borrow.Author.Needs.{needs}
 use Prim.Native.Nat.{_-_, _≤_}
 use Rattle.index_entry.proofs.Placing.{GiveOn, give-begins, small-place, child-at, few-children, room-here, children-here, give-more, give-ends}
 use native.Mathlib.Omega.{arith}
-use lib.ListN.{length-set}
 use Rattle.index_entry.proofs.give_places.Statement.{statement}
 use Rattle.index_entry.proofs.give_places.Tie as tie
 use Rattle.index_entry.proofs.give_places.Reads as reads
 use Rattle.index_entry.proofs.give_places.Lts as lts
 use Rattle.index_entry.proofs.ahead.Reads as ahead-reads
-use Rattle.index_entry.proofs.first_at.Reads as first-at-reads
+use Rattle.index_memory.proofs.first_at.Reads as first-at-reads
 use Rattle.script_entry.proofs.place.Reads as place-reads
 use Rattle.walk.proofs.node_at.Reads as node-at-reads
 

@@ -2,7 +2,7 @@
 use Rattle.index_entry.proofs.Promised.{first-long, joined-long, tree-checked, answered, answered-refused}
 use Rattle.claspwillow.proofs.CheckLaws.{same-room}
 use lib.ListN.{take}
-use mathlib.Core.Path.{refl, sym, ap, subst, _∙_}
+use mathlib.Core.Path.{sym, _∙_}
 use borrow.Author.Needs.{needs}
 use Rattle.index_entry.proofs.index_checked.Statement.{statement}
 use Rattle.index_entry.proofs.index_checked.Tie as tie

@@ -1,13 +1,13 @@
 -- `index_entry::index_in` meets its contract. Assumes nothing.
 use Rattle.index_entry.proofs.Promised.{index-fits, index-too-long}
-use mathlib.Core.Path.{refl, sym, ap, subst, _∙_}
+use mathlib.Core.Path.{refl, sym, _∙_}
 use borrow.Author.Needs.{needs}
 use Rattle.index_entry.proofs.index_in.Statement.{statement}
 use Rattle.index_entry.proofs.index_in.Tie as tie
 use Rattle.index_entry.proofs.index_in.Reads as reads
 use Rattle.index_entry.proofs.index_in.Lts as lts
 use Rattle.index_entry.proofs.build.Reads as build-reads
-use Rattle.index_entry.proofs.write_index.Reads as write-index-reads
+use Rattle.index_memory.proofs.write_index.Reads as write-index-reads
 
 build-requires : tie.Need-build-requires
 build-requires c κs = search needs

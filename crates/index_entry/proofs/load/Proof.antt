@@ -1,15 +1,14 @@
 -- `index_entry::load` meets its contract. Assumes nothing.
 use borrow.Author.Needs.{needs}
 use Prim.Native.Nat.{_-_, _≤_}
-use mathlib.Core.Path.{_≡_, refl, sym, ap, subst, _∙_}
+use mathlib.Core.Path.{_≡_}
 use native.Mathlib.Omega.{arith}
-use lib.ListN.{length}
 use Rattle.index_entry.proofs.Records.{LoadOn, load-begins, load-more}
 use Rattle.index_entry.proofs.load.Statement.{statement}
 use Rattle.index_entry.proofs.load.Tie as tie
 use Rattle.index_entry.proofs.load.Reads as reads
 use Rattle.index_entry.proofs.load.Lts as lts
-use Rattle.index_entry.proofs.subtree_at.Reads as subtree-at-reads
+use Rattle.index_memory.proofs.subtree_at.Reads as subtree-at-reads
 use Rattle.types.proofs.Type.of_false.Reads as of-false-reads
 
 abbrev Inv-loop : tie.InvT-loop

@@ -1,15 +1,14 @@
 -- `index_entry::record_size` meets its contract. Assumes nothing.
 use Rattle.index_entry.proofs.Records.{its-children, from-leaf, from-children}
 use native.Mathlib.Omega.{arith}
-use mathlib.Core.Path.{refl, sym, ap, subst, _∙_}
 use borrow.Author.Needs.{needs}
 use Rattle.index_entry.proofs.record_size.Statement.{statement}
 use Rattle.index_entry.proofs.record_size.Tie as tie
 use Rattle.index_entry.proofs.record_size.Reads as reads
 use Rattle.index_entry.proofs.record_size.Lts as lts
 use Rattle.index_entry.proofs.ahead.Reads as ahead-reads
-use Rattle.index_entry.proofs.last_size.Reads as last-size-reads
-use Rattle.index_entry.proofs.leaf_size.Reads as leaf-size-reads
+use Rattle.index_sizes.proofs.last_size.Reads as last-size-reads
+use Rattle.index_sizes.proofs.leaf_size.Reads as leaf-size-reads
 use Rattle.walk.proofs.node_of.Reads as node-of-reads
 
 node-of-requires : tie.Need-node-of-requires

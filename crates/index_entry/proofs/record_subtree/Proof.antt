@@ -1,8 +1,7 @@
 -- `index_entry::record_subtree` meets its contract. Assumes nothing.
-use Rattle.trees.specs.Height.{maxHeight}
 use Rattle.index_entry.proofs.Records.{few-loaded, needed, loaded-inside, ill-ruled, tall-ruled, well-ruled}
 use native.Mathlib.Omega.{arith}
-use mathlib.Core.Path.{refl, sym, ap, subst, _∙_}
+use mathlib.Core.Path.{refl}
 use borrow.Author.Needs.{needs}
 use Rattle.index_entry.proofs.record_subtree.Statement.{statement}
 use Rattle.index_entry.proofs.record_subtree.Tie as tie

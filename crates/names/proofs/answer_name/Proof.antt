@@ -83,9 +83,49 @@ unfolding nameIn
 returns-19 c = rw (c .before .before .match .keys19)
 
 returns-20 : tie.Need-returns-20
-returns-20 c =
+unfolding nameIn
+returns-20 c = rw (c .before .before .match .keys20)
+
+returns-21 : tie.Need-returns-21
+unfolding nameIn
+returns-21 c = rw (c .before .before .match .keys21)
+
+returns-22 : tie.Need-returns-22
+unfolding nameIn
+returns-22 c = rw (c .before .before .match .keys22)
+
+returns-23 : tie.Need-returns-23
+unfolding nameIn
+returns-23 c = rw (c .before .before .match .keys23)
+
+returns-24 : tie.Need-returns-24
+unfolding nameIn
+returns-24 c = rw (c .before .before .match .keys24)
+
+returns-25 : tie.Need-returns-25
+unfolding nameIn
+returns-25 c = rw (c .before .before .match .keys25)
+
+returns-26 : tie.Need-returns-26
+unfolding nameIn
+returns-26 c = rw (c .before .before .match .keys26)
+
+returns-27 : tie.Need-returns-27
+unfolding nameIn
+returns-27 c = rw (c .before .before .match .keys27)
+
+returns-28 : tie.Need-returns-28
+returns-28 c =
     let rest = c .before .before .match .rest in
-    ap (inPlaces 15) (sym (unnamed
+    ap (inPlaces 16) (sym (unnamed
+    (passed (rest .0 .0 .0 .0 .0 .0 .0 .0 .0 .0 .0 .0 .0 .0 .0 .0 .0 .0 .0 .0 .0 .0 .0 .0 .0 .0 .1)
+    (passed (rest .0 .0 .0 .0 .0 .0 .0 .0 .0 .0 .0 .0 .0 .0 .0 .0 .0 .0 .0 .0 .0 .0 .0 .0 .0 .1)
+    (passed (rest .0 .0 .0 .0 .0 .0 .0 .0 .0 .0 .0 .0 .0 .0 .0 .0 .0 .0 .0 .0 .0 .0 .0 .0 .1)
+    (passed (rest .0 .0 .0 .0 .0 .0 .0 .0 .0 .0 .0 .0 .0 .0 .0 .0 .0 .0 .0 .0 .0 .0 .0 .1)
+    (passed (rest .0 .0 .0 .0 .0 .0 .0 .0 .0 .0 .0 .0 .0 .0 .0 .0 .0 .0 .0 .0 .0 .0 .1)
+    (passed (rest .0 .0 .0 .0 .0 .0 .0 .0 .0 .0 .0 .0 .0 .0 .0 .0 .0 .0 .0 .0 .0 .1)
+    (passed (rest .0 .0 .0 .0 .0 .0 .0 .0 .0 .0 .0 .0 .0 .0 .0 .0 .0 .0 .0 .0 .1)
+    (passed (rest .0 .0 .0 .0 .0 .0 .0 .0 .0 .0 .0 .0 .0 .0 .0 .0 .0 .0 .0 .1)
     (passed (rest .0 .0 .0 .0 .0 .0 .0 .0 .0 .0 .0 .0 .0 .0 .0 .0 .0 .0 .1)
     (passed (rest .0 .0 .0 .0 .0 .0 .0 .0 .0 .0 .0 .0 .0 .0 .0 .0 .0 .1)
     (passed (rest .0 .0 .0 .0 .0 .0 .0 .0 .0 .0 .0 .0 .0 .0 .0 .0 .1)
@@ -104,7 +144,7 @@ returns-20 c =
     (passed (rest .0 .0 .0 .1)
     (passed (rest .0 .0 .1)
     (passed (rest .0 .1)
-    (passed (rest .1) none)))))))))))))))))))))
+    (passed (rest .1) none)))))))))))))))))))))))))))))
 
 pub answer-name-spec : {M : Type 1} → statement M
 answer-name-spec =
@@ -129,4 +169,12 @@ answer-name-spec =
     returns-17
     returns-18
     returns-19
-    returns-20)
+    returns-20
+    returns-21
+    returns-22
+    returns-23
+    returns-24
+    returns-25
+    returns-26
+    returns-27
+    returns-28)

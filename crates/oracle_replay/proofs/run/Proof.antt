@@ -14,7 +14,7 @@ slice-aggregate-replay-2 : tie.Need-slice-aggregate-replay-2
 slice-aggregate-replay-2 c = sym (length-replicate {A = ℕ} 262144 0)
 
 slice-aggregate-replay-3 : tie.Need-slice-aggregate-replay-3
-slice-aggregate-replay-3 c = sym (length-replicate {A = ℕ} 294912 0)
+slice-aggregate-replay-3 c = sym (length-replicate {A = ℕ} 557056 0)
 
 slice-aggregate-replay-4 : tie.Need-slice-aggregate-replay-4
 slice-aggregate-replay-4 c = sym (length-replicate {A = ℕ} 612360 0)

@@ -33,8 +33,8 @@ put-k-and-n-requires c κs =
     let match = c .before .match in
     (thresh-fits (args .pol .now) (args .work .now) (args .e) _ _ (node .ensures) (head-of .ensures) (args .at) (args .out .now) (pre .fits) (match .keys1), count-fits (args .pol .now) (args .work .now) (args .e) _ _ (node .ensures) (head-of .ensures) (pre .readable .good))
 
-put-4-requires : tie.Need-put-4-requires
-put-4-requires c κs =
+put-number-requires : tie.Need-put-number-requires
+put-number-requires c κs =
     let args = c .before .before .before .before .before .before .before .before .before .before .args in
     let pre = c .before .before .before .before .before .before .before .before .before .before .pre in
     let node = c .before .before .before .before .before .before .node in
@@ -92,8 +92,8 @@ returns-3 c =
     let args = c .before .before .before .before .before .before .before .before .before .before .before .before .before .args in
     let node = c .before .before .before .before .before .before .before .before .before .node in
     let head-of = c .before .before .before .before .before .before .before .head-of in
-    let put-4 = c .before .before .put-4 in
-    put-4 .ensures ∙ ap (sets (args .out .now) (args .at)) (sym (front-number (args .pol .now) (args .work .now) (args .e) _ _ (node .ensures) (head-of .ensures) (omega arith) (omega arith)))
+    let put-number = c .before .before .put-number in
+    put-number .ensures ∙ ap (sets (args .out .now) (args .at)) (sym (front-number (args .pol .now) (args .work .now) (args .e) _ _ (node .ensures) (head-of .ensures) (omega arith) (omega arith)))
 
 returns-4 : tie.Need-returns-4
 returns-4 c =
@@ -114,7 +114,7 @@ returns-5 c =
     let head-of = c .before .before .before .before .before .before .before .before .before .before .before .before .before .head-of in
     let put-k-and-n2 = c .before .before .before .before .before .before .put-k-and-n2 in
     let put-keys = c .before .before .put-keys in
-    then-sets (args .out .now) _ _ (kAndN (head-of .result .k) (head-of .result .count)) (inRow 4 (keysOf (policyAt (args .pol .now) (node .result .first)))) (args .at) _ (put-k-and-n2 .ensures) (put-keys .ensures)
+    then-sets (args .out .now) _ _ (kAndN (head-of .result .k) (head-of .result .count)) (inRow 8 (keysOf (policyAt (args .pol .now) (node .result .first)))) (args .at) _ (put-k-and-n2 .ensures) (put-keys .ensures)
     (omega (arith, length-row 2 (head-of .result .k ∷ head-of .result .count ∷ [])))
     ∙ ap (sets (args .out .now) (args .at)) (sym (front-keys (args .pol .now) (args .work .now) (args .e) _ _ (node .ensures) (head-of .ensures) low high))
 
@@ -133,7 +133,7 @@ put-front-spec =
     cast-r
     head-of-requires
     put-k-and-n-requires
-    put-4-requires
+    put-number-requires
     add-keys-at
     put-k-and-n-requires-2
     put-keys-requires

@@ -7,9 +7,6 @@ use borrow.Author.Needs.{needs}
 use Rattle.policies.proofs.put_row.Statement.{statement}
 use Rattle.policies.proofs.put_row.Tie as tie
 
-cast-number : tie.Need-cast-number
-cast-number c = search needs
-
 cast-k : tie.Need-cast-k
 cast-k c = search needs
 
@@ -38,7 +35,6 @@ pub put-row-spec : {M : Type 1} → statement M
 put-row-spec =
     tie.close
     (tie.spec
-    cast-number
     cast-k
     cast-left-weight
     cast-right-weight

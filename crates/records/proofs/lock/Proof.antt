@@ -6,47 +6,29 @@ use Rattle.records.specs.Payloads.{payloadOf}
 use Rattle.records.proofs.lock.Statement.{statement}
 use Rattle.records.proofs.lock.Tie as tie
 
-u32-or-zero-requires : tie.Need-u32-or-zero-requires
-u32-or-zero-requires c κs = search needs
+number-of-requires : tie.Need-number-of-requires
+number-of-requires c κs = search needs
 
 unfit-requires : tie.Need-unfit-requires
 unfit-requires c κs = search needs
 
 returns : tie.Need-returns
 unfolding payloadOf
-returns c =
-    let read = c .before .before in
-    simp (eq-eqb _ _ (read .before .if1 .taken), sym (read .u32-or-zero .ensures), lt-leb _ _ (c .before .if2 .taken), c .unfit .ensures)
+returns c = simp (eq-eqb _ _ (c .before .before .before .if1 .taken), sym (c .before .before .number-of .ensures .0), lt-leb _ _ (c .before .if2 .taken), c .unfit .ensures)
 
 unfit-requires-2 : tie.Need-unfit-requires-2
 unfit-requires-2 c κs = search needs
 
 returns-2 : tie.Need-returns-2
 unfolding payloadOf
-returns-2 c =
-    let read = c .before .before .before in
-    simp (
-      eq-eqb _ _ (read .before .if1 .taken),
-      sym (read .u32-or-zero .ensures),
-      le-leb _ _ (c .before .before .if2 .left),
-      lt-leb _ _ (c .before .if3 .taken),
-      c .unfit2 .ensures,
-    )
+returns-2 c = simp (eq-eqb _ _ (c .before .before .before .before .if1 .taken), sym (c .before .before .before .number-of .ensures .0), le-leb _ _ (c .before .before .if2 .left), lt-leb _ _ (c .before .if3 .taken), c .unfit2 .ensures)
 
 fitting-requires : tie.Need-fitting-requires
 fitting-requires c κs = search needs
 
 returns-3 : tie.Need-returns-3
 unfolding payloadOf
-returns-3 c =
-    let read = c .before .before .before in
-    simp (
-      eq-eqb _ _ (read .before .if1 .taken),
-      sym (read .u32-or-zero .ensures),
-      le-leb _ _ (c .before .before .if2 .left),
-      le-leb _ _ (c .before .if3 .left),
-      c .fitting .ensures,
-    )
+returns-3 c = simp (eq-eqb _ _ (c .before .before .before .before .if1 .taken), sym (c .before .before .before .number-of .ensures .0), le-leb _ _ (c .before .before .if2 .left), le-leb _ _ (c .before .if3 .left), c .fitting .ensures)
 
 unfit-requires-3 : tie.Need-unfit-requires-3
 unfit-requires-3 c κs = search needs
@@ -59,7 +41,7 @@ pub lock-spec : {M : Type 1} → statement M
 lock-spec =
     tie.close
     (tie.spec
-    u32-or-zero-requires
+    number-of-requires
     unfit-requires
     returns
     unfit-requires-2

@@ -20,9 +20,6 @@ cast-if1 c = search needs
 key-at-requires : tie.Need-key-at-requires Inv-loop μ-loop
 key-at-requires c κs = tt
 
-cast-say-number : tie.Need-cast-say-number Inv-loop μ-loop
-cast-say-number c = search needs
-
 say-number-requires : tie.Need-say-number-requires Inv-loop μ-loop
 say-number-requires c κs = tt
 
@@ -47,7 +44,6 @@ show-keys-spec =
     loop-holds
     cast-if1
     key-at-requires
-    cast-say-number
     say-number-requires
     add-i
     loop-less

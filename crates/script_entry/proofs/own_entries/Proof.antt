@@ -46,7 +46,7 @@ returns c =
     let kind-of = c .before .before .kind-of in
     let match = c .before .match in
     let t = tables (args .keys .now) (args .key-hashes .now) (args .hashes32 .now) (args .hashes20 .now) in
-    c .has-key .ensures ∙ ap (λ (n : ℕ). whole (keySize (args .context)) (args .keys .now) n) (number-of .ensures) ∙ key-entry (args .context) t
+    c .has-key .ensures ∙ ap (λ (n : ℕ). whole (keySize (args .context)) (args .keys .now) n) (number-of .ensures .0) ∙ key-entry (args .context) t
     (args .bytes .now) (kind-of .ensures) (match .keys1)
 
 returns-2 : tie.Need-returns-2
@@ -56,7 +56,7 @@ returns-2 c =
     let kind-of = c .before .before .kind-of in
     let match = c .before .match in
     let t = tables (args .keys .now) (args .key-hashes .now) (args .hashes32 .now) (args .hashes20 .now) in
-    c .has-entry .ensures ∙ ap (λ (n : ℕ). whole 20 (args .key-hashes .now) n) (number-of .ensures) ∙ key-hash-entry (args .context) t (args
+    c .has-entry .ensures ∙ ap (λ (n : ℕ). whole 20 (args .key-hashes .now) n) (number-of .ensures .0) ∙ key-hash-entry (args .context) t (args
     .bytes .now) (kind-of .ensures) (match .keys2)
 
 returns-3 : tie.Need-returns-3
@@ -66,7 +66,7 @@ returns-3 c =
     let kind-of = c .before .before .kind-of in
     let match = c .before .match in
     let t = tables (args .keys .now) (args .key-hashes .now) (args .hashes32 .now) (args .hashes20 .now) in
-    c .has-entry2 .ensures ∙ ap (λ (n : ℕ). whole 32 (args .hashes32 .now) n) (number-of .ensures) ∙ sha256-entry (args .context) t (args .bytes
+    c .has-entry2 .ensures ∙ ap (λ (n : ℕ). whole 32 (args .hashes32 .now) n) (number-of .ensures .0) ∙ sha256-entry (args .context) t (args .bytes
     .now) (kind-of .ensures) (match .keys3)
 
 returns-4 : tie.Need-returns-4
@@ -76,7 +76,7 @@ returns-4 c =
     let kind-of = c .before .before .kind-of in
     let match = c .before .match in
     let t = tables (args .keys .now) (args .key-hashes .now) (args .hashes32 .now) (args .hashes20 .now) in
-    c .has-entry3 .ensures ∙ ap (λ (n : ℕ). whole 32 (args .hashes32 .now) n) (number-of .ensures) ∙ hash256-entry (args .context) t (args
+    c .has-entry3 .ensures ∙ ap (λ (n : ℕ). whole 32 (args .hashes32 .now) n) (number-of .ensures .0) ∙ hash256-entry (args .context) t (args
     .bytes .now) (kind-of .ensures) (match .keys4)
 
 returns-5 : tie.Need-returns-5
@@ -86,7 +86,7 @@ returns-5 c =
     let kind-of = c .before .before .kind-of in
     let match = c .before .match in
     let t = tables (args .keys .now) (args .key-hashes .now) (args .hashes32 .now) (args .hashes20 .now) in
-    c .has-entry4 .ensures ∙ ap (λ (n : ℕ). whole 20 (args .hashes20 .now) n) (number-of .ensures) ∙ ripemd160-entry (args .context) t (args
+    c .has-entry4 .ensures ∙ ap (λ (n : ℕ). whole 20 (args .hashes20 .now) n) (number-of .ensures .0) ∙ ripemd160-entry (args .context) t (args
     .bytes .now) (kind-of .ensures) (match .keys5)
 
 returns-6 : tie.Need-returns-6
@@ -96,7 +96,7 @@ returns-6 c =
     let kind-of = c .before .before .kind-of in
     let match = c .before .match in
     let t = tables (args .keys .now) (args .key-hashes .now) (args .hashes32 .now) (args .hashes20 .now) in
-    c .has-entry5 .ensures ∙ ap (λ (n : ℕ). whole 20 (args .hashes20 .now) n) (number-of .ensures) ∙ hash160-entry (args .context) t (args
+    c .has-entry5 .ensures ∙ ap (λ (n : ℕ). whole 20 (args .hashes20 .now) n) (number-of .ensures .0) ∙ hash160-entry (args .context) t (args
     .bytes .now) (kind-of .ensures) (match .keys6)
 
 returns-7 : tie.Need-returns-7

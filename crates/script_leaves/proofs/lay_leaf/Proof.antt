@@ -1,5 +1,7 @@
 -- `script_leaves::lay_leaf` meets its contract: Multi, MultiA, and the leaves of one number or none. Assumes nothing.
 use mathlib.Core.Path.{sym, _∙_}
+use native.Mathlib.Omega.{arith}
+use Rattle.records.proofs.Widths.{short-fragment}
 use Rattle.script_bytes.specs.Tables.{tables}
 use Rattle.script_leaves.proofs.Laws.{keeps-length, laid-as}
 use Rattle.script_leaves.proofs.Leaves.{multi-ready, multi-a-ready, multi-leaf, multi-a-leaf, numbered-ready, numbered-leaf}
@@ -38,8 +40,11 @@ lay-numbered-requires c κs =
     let kind-of = c .before .before .before .kind-of in
     let match = c .before .before .match in
     let number-of = c .before .number-of in
-    numbered-ready (args .context) t (args .verified) (args .bytes .now) _ _ (kind-of .ensures) (number-of .ensures) (match .rest .0 .1)
-    (match .rest .1) pre
+    (
+      numbered-ready (args .context) t (args .verified) (args .bytes .now) _ _ (kind-of .ensures) (number-of .ensures .0) (match .rest .0 .1)
+          (match .rest .1) pre,
+      λ l h. number-of .ensures .1 (short-fragment (args .bytes .now) (omega (arith, kind-of .ensures)) (omega (arith, kind-of .ensures))),
+    )
 
 same-length : tie.Need-same-length
 same-length c = keeps-length (c .before .before .lay-multi .ensures)
@@ -76,7 +81,7 @@ returns-3 c =
     let match = c .before .before .before .before .before .match in
     let number-of = c .before .before .before .before .number-of in
     let lay-numbered = c .before .before .lay-numbered in
-    laid-as (numbered-leaf (args .context) t (args .verified) (args .bytes .now) _ _ (kind-of .ensures) (number-of .ensures) (match .rest .0 .1)
+    laid-as (numbered-leaf (args .context) t (args .verified) (args .bytes .now) _ _ (kind-of .ensures) (number-of .ensures .0) (match .rest .0 .1)
     (match .rest .1)) (lay-numbered .ensures)
 
 pub lay-leaf-spec : {M : Type 1} → statement M

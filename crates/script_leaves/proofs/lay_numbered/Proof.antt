@@ -1,4 +1,5 @@
 -- `script_leaves::lay_numbered` meets its contract, a kind at a time. Assumes nothing.
+use native.Mathlib.Omega.{arith}
 use Rattle.contexts.specs.Leaves.{After, Older, Sha256, Hash256, Ripemd160, Hash160}
 use Rattle.script_bytes.specs.Tables.{tables}
 use Rattle.script_bytes.proofs.Merging.{bytes-false, bytes-true, bytes-pkK, bytes-pkH, bytes-lock, bytes-hash}
@@ -17,7 +18,7 @@ lay-pk-k-requires c κs =
     let pre = c .before .before .before .before .before .before .before .pre in
     let t = tables (args .keys .now) (args .key-hashes .now) (args .hashes32 .now) (args .hashes20 .now) in
     let match = c .before .match in
-    pk-k-ready (args .context) t (args .n) pre (is-pk-k (args .kind) (args .n) (match .keys2))
+    pk-k-ready (args .context) t (args .n) (pre .0) (is-pk-k (args .kind) (args .n) (match .keys2))
 
 lay-pk-h-requires : tie.Need-lay-pk-h-requires
 lay-pk-h-requires c κs =
@@ -25,10 +26,16 @@ lay-pk-h-requires c κs =
     let pre = c .before .before .before .before .before .before .before .pre in
     let t = tables (args .keys .now) (args .key-hashes .now) (args .hashes32 .now) (args .hashes20 .now) in
     let match = c .before .match in
-    pk-h-ready (args .context) t (args .n) pre (is-pk-h (args .kind) (args .n) (match .keys3))
+    pk-h-ready (args .context) t (args .n) (pre .0) (is-pk-h (args .kind) (args .n) (match .keys3))
+
+cast-lay-lock : tie.Need-cast-lay-lock
+cast-lay-lock c = omega (arith, c .before .before .before .before .before .before .before .pre .1 (omega (arith, c .before .match .keys4)) (omega (arith, c .before .match .keys4)))
 
 lay-lock-requires : tie.Need-lay-lock-requires
 lay-lock-requires c κs = tt
+
+cast-lay-lock-2 : tie.Need-cast-lay-lock-2
+cast-lay-lock-2 c = omega (arith, c .before .before .before .before .before .before .before .pre .1 (omega (arith, c .before .match .keys5)) (omega (arith, c .before .match .keys5)))
 
 lay-lock-requires-2 : tie.Need-lay-lock-requires-2
 lay-lock-requires-2 c κs = tt
@@ -39,7 +46,7 @@ lay-hash-requires c κs =
     let pre = c .before .before .before .before .before .before .before .pre in
     let t = tables (args .keys .now) (args .key-hashes .now) (args .hashes32 .now) (args .hashes20 .now) in
     let match = c .before .match in
-    hash-ready (args .context) t (args .n) pre Sha256 (is-sha256 (args .kind) (args .n) (match .keys6))
+    hash-ready (args .context) t (args .n) (pre .0) Sha256 (is-sha256 (args .kind) (args .n) (match .keys6))
 
 lay-hash-requires-2 : tie.Need-lay-hash-requires-2
 lay-hash-requires-2 c κs =
@@ -47,7 +54,7 @@ lay-hash-requires-2 c κs =
     let pre = c .before .before .before .before .before .before .before .pre in
     let t = tables (args .keys .now) (args .key-hashes .now) (args .hashes32 .now) (args .hashes20 .now) in
     let match = c .before .match in
-    hash-ready (args .context) t (args .n) pre Hash256 (is-hash256 (args .kind) (args .n) (match .keys7))
+    hash-ready (args .context) t (args .n) (pre .0) Hash256 (is-hash256 (args .kind) (args .n) (match .keys7))
 
 lay-hash-requires-3 : tie.Need-lay-hash-requires-3
 lay-hash-requires-3 c κs =
@@ -55,7 +62,7 @@ lay-hash-requires-3 c κs =
     let pre = c .before .before .before .before .before .before .before .pre in
     let t = tables (args .keys .now) (args .key-hashes .now) (args .hashes32 .now) (args .hashes20 .now) in
     let match = c .before .match in
-    hash-ready (args .context) t (args .n) pre Ripemd160 (is-ripemd160 (args .kind) (args .n) (match .keys8))
+    hash-ready (args .context) t (args .n) (pre .0) Ripemd160 (is-ripemd160 (args .kind) (args .n) (match .keys8))
 
 lay-hash-requires-4 : tie.Need-lay-hash-requires-4
 lay-hash-requires-4 c κs =
@@ -63,7 +70,7 @@ lay-hash-requires-4 c κs =
     let pre = c .before .before .before .before .before .before .before .pre in
     let t = tables (args .keys .now) (args .key-hashes .now) (args .hashes32 .now) (args .hashes20 .now) in
     let match = c .before .match in
-    hash-ready (args .context) t (args .n) pre Hash160 (is-hash160 (args .kind) (args .n) (match .keys9))
+    hash-ready (args .context) t (args .n) (pre .0) Hash160 (is-hash160 (args .kind) (args .n) (match .keys9))
 
 put-op-requires-2 : tie.Need-put-op-requires-2
 put-op-requires-2 c κs = tt
@@ -196,7 +203,9 @@ lay-numbered-spec =
     put-op-requires
     lay-pk-k-requires
     lay-pk-h-requires
+    cast-lay-lock
     lay-lock-requires
+    cast-lay-lock-2
     lay-lock-requires-2
     lay-hash-requires
     lay-hash-requires-2

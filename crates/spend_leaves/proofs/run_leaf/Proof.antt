@@ -1,5 +1,7 @@
 -- `spend_leaves::run_leaf` meets its contract: Multi, MultiA, and the leaves of one number or none. Assumes nothing.
 use mathlib.Core.Path.{sym, _∙_}
+use native.Mathlib.Omega.{arith}
+use Rattle.records.proofs.Widths.{short-fragment}
 use Rattle.script_leaves.proofs.Leaves.{is-multi, is-multi-a}
 use Rattle.spend_log.specs.Places.{tablesIn}
 use Rattle.spend_leaves.proofs.Pieces.{named, multi-ready, multi-a-ready, other-kind, numbered-ready}
@@ -36,8 +38,11 @@ run-numbered-requires c κs =
     let kind-of = c .before .before .before .kind-of in
     let match = c .before .before .match in (
       pre .0,
-      numbered-ready (args .context) its-tables (args .bytes .now) (kind-of .ensures) (c .before .number-of .ensures) (match .rest .0 .1)
+      numbered-ready (args .context) its-tables (args .bytes .now) (kind-of .ensures) (c .before .number-of .ensures .0) (match .rest .0 .1)
           (match .rest .1) (pre .1),
+      λ l h.
+          c .before .number-of .ensures .1
+          (short-fragment (args .bytes .now) (omega (arith, kind-of .ensures)) (omega (arith, kind-of .ensures))),
     )
 
 same-length : tie.Need-same-length
@@ -75,7 +80,7 @@ returns-3 c =
     let number-of = c .before .before .before .before .number-of in
     let match = c .before .before .before .before .before .match in
     let run-numbered = c .before .before .run-numbered in
-    named (args .context) its-tables (other-kind (args .context) its-tables (args .bytes .now) (kind-of .ensures) (number-of .ensures) (match .rest .0 .1)
+    named (args .context) its-tables (other-kind (args .context) its-tables (args .bytes .now) (kind-of .ensures) (number-of .ensures .0) (match .rest .0 .1)
     (match .rest .1)) (run-numbered .ensures)
 
 pub run-leaf-spec : {M : Type 1} → statement M

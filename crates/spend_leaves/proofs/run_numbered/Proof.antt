@@ -1,4 +1,5 @@
 -- `spend_leaves::run_numbered` meets its contract, a kind at a time. Assumes nothing.
+use native.Mathlib.Omega.{arith}
 use Rattle.contexts.specs.Leaves.{After, Older, Sha256, Hash256, Ripemd160, Hash160}
 use Rattle.spend_log.specs.Places.{tablesIn}
 use Rattle.script_leaves.proofs.Leaves.{is-false, is-true, is-pk-k, is-pk-h, is-after, is-older, is-sha256, is-hash256, is-ripemd160, is-hash160}
@@ -25,8 +26,18 @@ run-pk-h-requires c κs =
     let its-tables = tablesIn (args .log .now) (args .head) in
     (pre .0, pk-h-ready (args .context) its-tables (args .n) (pre .1) (is-pk-h (args .kind) (args .n) (c .before .match .keys3)))
 
+cast-run-lock : tie.Need-cast-run-lock
+cast-run-lock c =
+    let keys = c .before .match .keys4 in
+    omega (arith, c .before .before .before .before .pre .2 (omega (arith, keys)) (omega (arith, keys)))
+
 run-lock-requires : tie.Need-run-lock-requires
 run-lock-requires c κs = c .before .before .before .before .pre .0
+
+cast-run-lock-2 : tie.Need-cast-run-lock-2
+cast-run-lock-2 c =
+    let keys = c .before .match .keys5 in
+    omega (arith, c .before .before .before .before .pre .2 (omega (arith, keys)) (omega (arith, keys)))
 
 run-lock-requires-2 : tie.Need-run-lock-requires-2
 run-lock-requires-2 c κs = c .before .before .before .before .pre .0
@@ -205,7 +216,9 @@ run-numbered-spec =
     push-number-requires
     push-key-requires
     run-pk-h-requires
+    cast-run-lock
     run-lock-requires
+    cast-run-lock-2
     run-lock-requires-2
     run-hash-requires
     run-hash-requires-2

@@ -24,9 +24,6 @@ cast-key-at c = omega (arith, c .before .before .before .pre)
 key-at-requires : tie.Need-key-at-requires Inv-loop μ-loop
 key-at-requires c κs = tt
 
-cast-number : tie.Need-cast-number Inv-loop μ-loop
-cast-number c = search needs
-
 mul-list : tie.Need-mul-list Inv-loop μ-loop
 mul-list c = omega (arith, c .before .before .before .before .pre)
 
@@ -54,7 +51,6 @@ keys-of-spec =
     loop-holds
     cast-key-at
     key-at-requires
-    cast-number
     mul-list
     array-set-from-list
     add-j

@@ -1,0 +1,4 @@
+-- An index in bytes and in work memory, in reading order.
+pub mod Entries
+pub mod Memory
+pub mod Looking

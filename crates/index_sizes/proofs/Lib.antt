@@ -1,0 +1,2 @@
+-- Why the sizes are those of the definition.
+pub mod LeafSizes
