@@ -1,7 +1,7 @@
--- What compile writes is accepted for its policy wherever every fragment of it is locally valid and both have at most twelve variables: of the tree
--- that compile writes no other number than 0, 21 and 25 is given.
+-- What compile writes is accepted for its policy wherever both have at most twelve variables and, in context 0, the tree holds no False: the number
+-- that the entry gives of what compile writes is 25 for a False that is not allowed, else 21 for too many variables, else 0.
 use Prim.Native.Nat.{ℕ}
-use mathlib.Core.Bool.{Bool, true}
+use mathlib.Core.Bool.{Bool, true, false}
 use mathlib.Core.List.{List}
 use mathlib.Core.Option.{some}
 use mathlib.Core.Path.{_≡_}
@@ -17,20 +17,26 @@ use Rattle.trees.specs.Tree.{treeOf}
 use Rattle.trees.specs.TreeCheck.{contextOf}
 use Rattle.writing.specs.WellFormed.{AllBelow}
 use Rattle.definition.specs.Compile.{compiled, compile}
-use Rattle.tree_figures.specs.LocallyValid.{allValid}
+use Rattle.valid_laws.specs.CompiledValid.{falsesAllowed}
 use Rattle.variables.specs.Variables.{FewVariables}
-use Rattle.accept_entry.specs.Accept.{workWords, AcceptPromise}
+use Rattle.accept_entry.specs.Accept.{workWords, locallyInvalid, tooManyVariables, AcceptPromise}
 
--- the bytes of a tree are accepted for the bytes of a policy, if these two conditions hold
-pub record AcceptedIf (c : Context) (context : ℕ) (policy tree : List ℕ) : Type 0 where
+-- the entry gives this number, whatever its work memory held
+abbrev pub Gives : (context : ℕ) → (policy tree : List ℕ) → ℕ → Type 0
+Gives context policy tree n =
+    (work : List ℕ) (number : ℕ) (after : List ℕ) → length work ≡ workWords → AcceptPromise context policy tree work number after → number ≡ n
+
+-- the bytes of a policy and of the tree that compile wrote for it, and what the entry gives of them
+pub record Accepted (c : Context) (context : ℕ) (policy tree : List ℕ) : Type 0 where
   pub asPolicy : Policy
   pub asTree : Fragment
   pub policyRead : readPolicy policy ≡ policies.done asPolicy
   pub treeRead : treeOf tree ≡ done asTree
-  pub accepted : allValid c asTree ≡ true → FewVariables asPolicy asTree → (work : List ℕ) (number : ℕ) (after : List ℕ) → length work ≡ workWords
-      → AcceptPromise context policy tree work number after → number ≡ 0
+  pub accepted : falsesAllowed c asTree ≡ true → FewVariables asPolicy asTree → Gives context policy tree 0
+  pub tooMany : falsesAllowed c asTree ≡ true → (FewVariables asPolicy asTree → ⊥) → Gives context policy tree tooManyVariables
+  pub holdsFalse : falsesAllowed c asTree ≡ false → Gives context policy tree locallyInvalid
 
 abbrev pub CompiledAccepted : Type 0
 CompiledAccepted =
     (context : ℕ) (c : Context) (workFits : Bool) (policy : List ℕ) (room : ℕ) (bytes : List ℕ) (cost : Price) (nodes : ℕ) → contextOf context ≡ some c
-    → AllBelow 256 policy → compile context workFits policy room ≡ compiled bytes cost nodes → AcceptedIf c context policy bytes
+    → AllBelow 256 policy → compile context workFits policy room ≡ compiled bytes cost nodes → Accepted c context policy bytes
