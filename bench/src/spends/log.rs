@@ -16,7 +16,7 @@ pub const BROKEN: u32 = 14;
 pub const NO_ENTRY: u32 = 17;
 
 /// The words of work memory that the entry asks for.
-pub const WORK: usize = 8_192;
+pub const WORK: usize = 20_480;
 
 /// The bytes of a report.
 pub const REPORT: usize = 8;

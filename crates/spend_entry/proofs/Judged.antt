@@ -1,7 +1,7 @@
 -- The verdict on an entry by its run in memory, and its report. Assumes nothing.
 use Prim.Native.Nat.{ℕ, _+_, _*_, _≤_, _<_}
 use mathlib.Core.Bool.{Bool, true, false, _&&_, cond}
-use mathlib.Core.List.{List, []}
+use mathlib.Core.List.{List, [], _++_}
 use mathlib.Core.Option.{some}
 use mathlib.Core.Path.{_≡_, refl, sym, ap, subst, _∙_}
 use native.Mathlib.Omega.{arith}
@@ -26,12 +26,14 @@ use Rattle.spend_log.specs.Logs.{entry}
 use Rattle.spend_log.specs.Places.{tablesIn}
 use Rattle.spend_log.specs.declared.Offsets.{Offsets}
 use Rattle.spend_stack.specs.declared.Machine.{Machine}
+use Rattle.spend_stack.specs.Memory.{workWords, mainIn}
 use Rattle.spend_stack.specs.Machines.{runOf, Fits}
+use Rattle.spend_stack.proofs.Memory.{main-back}
 use Rattle.spend_judge.specs.declared.EntryAt.{EntryAt}
 use Rattle.spend_judge.specs.Places.{stackIn, outcomesIn, endIn, entryAt, entryIn, Lie, Stands, endPast}
 use Rattle.spend_judge.specs.Results.{Loaded, Begins}
 use Rattle.spend_judge.proofs.Entries.{EntryRead, entry-read, stack-later, outcomes-later, end-later}
-use Rattle.spend_run.specs.Running.{Played}
+use Rattle.spend_run.specs.Running.{Runs, Played}
 use Rattle.spend_entry.specs.Results.{putNumbers, putReport, Reported}
 use Rattle.spend_entry.proofs.Telling.{length-numbers}
 
@@ -77,6 +79,16 @@ module _ (c : Context) (log : Bytes) (h : Offsets) (tree : List ℕ) (root : ℕ
   verdict-large is t =
       let large : smallEntry (entryIn log e) ≡ false = sym is ∙ t in
       rw large refl
+
+-- the stack that was loaded into the main stack's part of the memory
+pub loaded-back : {log before : List ℕ} {n : ℕ} {m : Stack} (w : List ℕ) → length w ≡ workWords → (p : List ℕ) → length p ≡ length (mainIn w)
+    → Loaded log before p n m → Loaded log before (mainIn (p ++ drop 8192 w)) n m
+loaded-back {log} {before} {n = n} {m} w long p same x = main-back w long p same (λ a b. Loaded log before a n m) x
+
+-- the run may begin from memory where the records' places are as they were
+pub still-runs : {c : Context} {log : Bytes} {h : Offsets} {tree starts starts′ : List ℕ} {i : ℕ} → Runs c log h tree starts i → starts′ ≡ starts
+    → Runs c log h tree starts′ i
+still-runs {c} {log} {h} {tree} {i = i} r e = subst (λ (s : List ℕ). Runs c log h tree s i) (sym e) r
 
 -- ---- the report
 

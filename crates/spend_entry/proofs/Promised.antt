@@ -7,7 +7,7 @@ use mathlib.Core.Path.{_≡_, refl, sym, ap, subst, _∙_}
 use native.Mathlib.Omega.{arith}
 use borrow.Author.Tests.{le-leb, lt-leb, eq-eqb, ne-eqb}
 use lib.Dec.{leb, eqb}
-use lib.ListN.{length, drop, replicate}
+use lib.ListN.{length, take, drop, replicate}
 use Rattle.words.specs.Memory.{zeroed}
 use Rattle.contexts.specs.declared.Context.{Context}
 use Rattle.trees.specs.Fragment.{Fragment}
@@ -37,6 +37,8 @@ use Rattle.spend_log.specs.declared.HeadAt.the-variants as HeadAt
 use Rattle.spend_log.specs.declared.Counted.{Counted}
 use Rattle.spend_log.specs.declared.Counted.the-variants as Counted
 use Rattle.spend_log.proofs.Heads.{EntriesAt, entries-told}
+use Rattle.spend_stack.specs.Memory.{workWords, startsIn}
+use Rattle.spend_stack.proofs.Memory.{starts-back}
 use Rattle.spend_run.specs.Running.{Runs}
 use Rattle.spend_replay.specs.Replay.{badLog, replayWords, Report, fitting, reportsIn, replayLog, replayOf, ReplayPromise}
 use Rattle.spend_entry.specs.declared.Given.{Given}
@@ -98,6 +100,11 @@ module _ (c : Context) (log : Bytes) (h : Offsets) {tree : Bytes} {f : Fragment}
             writes = put ∙ ap (λ (x : Fragment). putReports out 0 (reports c t x es)) root ∙ all-put (reports c t f es) out fits;
             counts = many ∙ sym long;
           })
+
+-- the places of the records that the scan left, put back into the memory
+pub placed-back : {tree : Bytes} {i : ℕ} (w : List ℕ) → (long : length w ≡ workWords) (p : List ℕ) → length p ≡ length (startsIn w) → AllPlaced tree p i
+    → AllPlaced tree (startsIn (take 16384 w ++ (p ++ drop 4096 (drop 16384 w)))) i
+placed-back {tree} {i} w long p same x = subst (λ (s : List ℕ). AllPlaced tree s i) (sym (starts-back w long p same)) x
 
 pub fits-room : (es : List Entry) (out : Bytes) {count : ℕ} → count ≡ length es → count ≤ length out / 8 → 8 * length es ≤ length out
 fits-room es out e h = omega arith

@@ -6,12 +6,12 @@ ghost use mathlib.Core.Path.{_≡_};
 ghost use Prim.Native.Nat.{_+_, _*_, _-_, _≤_};
 ghost use lib.ListN.{length};
 ghost use Rattle.trees.specs.Fragment.{Fragment};
-ghost use Rattle.trees.specs.Reading.{refused, maxRecords};
 ghost use Rattle.walk.specs.TreeRecords.{TreeRecords, Written, fragmentAt};
 ghost use Rattle.walk.specs.Nodes.{AllPlaced};
 ghost use Rattle.script_bytes.specs.Entries.{entriesBelow};
 ghost use Rattle.spend_machine.specs.Verdicts.{verdictNumber, verdict, reports};
 ghost use Rattle.spend_log.specs.Places.{Lies, treeIn, tablesIn};
+ghost use Rattle.spend_stack.specs.Memory.{workWords, startsIn, Keeps};
 ghost use Rattle.spend_judge.specs.Places.{entryIn, Lie, Stands};
 ghost use Rattle.spend_run.specs.Running.{Runs};
 ghost use Rattle.spend_replay.specs.Replay.{replayWords, reportsIn, replayOf, ReplayPromise};
@@ -33,9 +33,6 @@ const BAD_LOG: u32 = 14;
 
 const NO_ENTRY: u32 = 17;
 
-// The one length of work memory, which holds the main stack: two words for each element.
-const WORK_WORDS: usize = 8192;
-
 // The number of an outcome and how many entries it reported.
 pub struct Given {
     pub number: u32,
@@ -55,24 +52,21 @@ fn verdict_on(
     log: &[u8],
     head: Offsets,
     tree: &[u8],
-    starts: &[u64],
     root: usize,
-    main: &mut [u64],
-    alt: &mut [u64],
+    work: &mut [u64],
     e: EntryAt,
 ) -> u32
-    requires { ⌜ Runs context (now log) head (now tree) (now starts) root × Lie (now log) e
-        × (length (now main) ≡ 8192) × (length (now alt) ≡ 8192) ⌝ }
+    requires { ⌜ Runs context (now log) head (now tree) (startsIn (now work)) root × Lie (now log) e
+        × (length (now work) ≡ workWords) ⌝ }
     ensures { λ r. ⌜ r ≡ verdictNumber (verdict context (tablesIn (now (log .entry)) head) (fragmentAt (now (tree .entry)) root)
         (entryIn (now (log .entry)) e)) ⌝ }
-    ensures { λ _. ⌜ length (now (main .exit)) ≡ 8192 ⌝ }
-    ensures { λ _. ⌜ length (now (alt .exit)) ≡ 8192 ⌝ }
+    ensures { λ _. ⌜ Keeps (now (work .entry)) (now (work .exit)) ⌝ }
 {
     if spend_judge::small_entry(log, e) {
-        let n = spend_judge::load(log, e.start, main);
-        let m = spend_judge::begin(log, main, n, e.outcomes);
-        let r = spend_run::run_record(context, log, head, tree, starts, root, main, alt, m);
-        return spend_judge::judge(log, main, r, e.ending);
+        let n = spend_judge::load(log, e.start, &mut work[0..spend_stack::ALT]);
+        let m = spend_judge::begin(log, &work[0..spend_stack::ALT], n, e.outcomes);
+        let r = spend_run::run_record(context, log, head, tree, root, work, m);
+        return spend_judge::judge(log, &work[0..spend_stack::ALT], r, e.ending);
     }
     spend_judge::TOO_LARGE
 }
@@ -92,23 +86,20 @@ fn report_entry(
     log: &[u8],
     head: Offsets,
     tree: &[u8],
-    starts: &[u64],
     root: usize,
-    main: &mut [u64],
-    alt: &mut [u64],
+    work: &mut [u64],
     at: usize,
     i: usize,
     out: &mut [u8],
 ) -> usize
-    requires { ⌜ Runs context (now log) head (now tree) (now starts) root × Stands (now log) at
-        × (length (now main) ≡ 8192) × (length (now alt) ≡ 8192) × (8 * i + 8 ≤ length (now out)) ⌝ }
+    requires { ⌜ Runs context (now log) head (now tree) (startsIn (now work)) root × Stands (now log) at
+        × (length (now work) ≡ workWords) × (8 * i + 8 ≤ length (now out)) ⌝ }
     ensures { λ r. ⌜ Reported context (tablesIn (now (log .entry)) head) (fragmentAt (now (tree .entry)) root) (now (log .entry)) at i
         (now (out .entry)) (now (out .exit)) r ⌝ }
-    ensures { λ _. ⌜ length (now (main .exit)) ≡ 8192 ⌝ }
-    ensures { λ _. ⌜ length (now (alt .exit)) ≡ 8192 ⌝ }
+    ensures { λ _. ⌜ Keeps (now (work .entry)) (now (work .exit)) ⌝ }
 {
     let e = spend_judge::entry_at(log, at);
-    let verdict = verdict_on(context, log, head, tree, starts, root, main, alt, e);
+    let verdict = verdict_on(context, log, head, tree, root, work, e);
     put_report(out, i, e.number, verdict);
     e.next
 }
@@ -119,35 +110,21 @@ fn report_all(
     log: &[u8],
     head: Offsets,
     tree: &[u8],
-    starts: &[u64],
     root: usize,
-    main: &mut [u64],
+    work: &mut [u64],
     out: &mut [u8],
 )
-    requires { ⌜ Runs context (now log) head (now tree) (now starts) root × Follow (now log) (head .entries)
-        × (length (now main) ≡ 8192) × (8 * length (entriesFrom (now log) (head .entries)) ≤ length (now out)) ⌝ }
+    requires { ⌜ Runs context (now log) head (now tree) (startsIn (now work)) root × Follow (now log) (head .entries)
+        × (length (now work) ≡ workWords) × (8 * length (entriesFrom (now log) (head .entries)) ≤ length (now out)) ⌝ }
     ensures { λ _. ⌜ now (out .exit) ≡ putReports (now (out .entry)) 0
         (reports context (tablesIn (now (log .entry)) head) (fragmentAt (now (tree .entry)) root)
         (entriesFrom (now (log .entry)) (head .entries))) ⌝ }
-    ensures { λ _. ⌜ length (now (main .exit)) ≡ 8192 ⌝ }
+    ensures { λ _. ⌜ Keeps (now (work .entry)) (now (work .exit)) ⌝ }
 {
-    let mut alt = [0u64; 8192];
     let mut to = head.entries;
     let mut i = 0;
     while to < log.len() {
-        to = report_entry(
-            context,
-            log,
-            head,
-            tree,
-            starts,
-            root,
-            main,
-            &mut alt,
-            to,
-            i,
-            out,
-        );
+        to = report_entry(context, log, head, tree, root, work, to, i, out);
         i += 1;
     }
 }
@@ -188,21 +165,26 @@ fn replay_tree(
     head: Offsets,
     count: usize,
     tree: &[u8],
-    starts: &mut [u64],
     out: &mut [u8],
     work: &mut [u64],
 ) -> Given
-    requires { ⌜ Whole (now log) head count × (now tree ≡ treeIn (now log) head) × Written (now tree)
-        × (length (now starts) ≡ maxRecords) × (length (now work) ≡ replayWords) ⌝ }
+    requires { ⌜ Whole (now log) head count × (now tree ≡ treeIn (now log) head) × Written (now tree) × (length (now work) ≡ workWords) ⌝ }
     ensures { λ r. ⌜ ((f : Fragment) → TreeRecords (now (tree .entry)) f
         → Gives (reportsIn context (tablesIn (now (log .entry)) head) (length (now (out .entry)))
         (entriesFrom (now (log .entry)) (head .entries)) f) (now (out .entry)) (now (out .exit)) r) ⌝ }
     ensures { λ _. ⌜ length (now (work .exit)) ≡ length (now (work .entry)) ⌝ }
 {
-    let n = walk::scan(tree, starts);
-    if has_entries(context, log, head, tree, starts, n) {
+    let n = walk::scan(tree, &mut work[spend_stack::STARTS..spend_stack::WORDS]);
+    if has_entries(
+        context,
+        log,
+        head,
+        tree,
+        &work[spend_stack::STARTS..spend_stack::WORDS],
+        n,
+    ) {
         if count <= out.len() / 8 {
-            report_all(context, log, head, tree, starts, n - 1, work, out);
+            report_all(context, log, head, tree, n - 1, work, out);
             return Given {
                 number: 0,
                 count: count as u64,
@@ -227,12 +209,16 @@ fn replay_checked(
 {
     let keys = head.keys;
     let tree = &log[spend_log::TREE..keys];
-    let mut starts = [0u64; 4096];
     let mut ty = 0;
-    let number = claspwillow::claspwillow_check(head.context, tree, &mut starts, &mut ty);
+    let number = claspwillow::claspwillow_check(
+        head.context,
+        tree,
+        &mut work[spend_stack::STARTS..spend_stack::WORDS],
+        &mut ty,
+    );
     if number == 0 {
         let context = claspwillow::context_of(head.context);
-        return replay_tree(context, log, head, count, tree, &mut starts, out, work);
+        return replay_tree(context, log, head, count, tree, out, work);
     }
     refusal(number)
 }
@@ -254,7 +240,7 @@ fn replay_whole(log: &[u8], head: Offsets, count: usize, out: &mut [u8], work: &
     ensures { λ r. ⌜ Gives (replayOf (now (log .entry)) (now (out .entry)) (now (work .entry))) (now (out .entry)) (now (out .exit)) r ⌝ }
     ensures { λ _. ⌜ length (now (work .exit)) ≡ length (now (work .entry)) ⌝ }
 {
-    if work.len() == WORK_WORDS {
+    if work.len() == spend_stack::WORDS {
         return replay_checked(log, head, count, out, work);
     }
     refusal(wrong_length(head.context))
@@ -297,5 +283,5 @@ pub extern "C" fn claspwillow_replay(
 pub extern "C" fn claspwillow_replay_work() -> usize
     ensures { λ n. ⌜ n ≡ replayWords ⌝ }
 {
-    WORK_WORDS
+    spend_stack::WORDS
 }

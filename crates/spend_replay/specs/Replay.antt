@@ -1,6 +1,6 @@
 -- What the replay of a log gives: document 02, R-6. A broken log is 14; then come the refusals of R-1: 1, 2, the tree check's, 17; and 13 where
 -- the reports do not fit.
-use Prim.Native.Nat.{ℕ, _*_}
+use Prim.Native.Nat.{ℕ, _+_, _*_}
 use mathlib.Core.Bool.{cond}
 use mathlib.Core.List.{List, _++_}
 use mathlib.Core.Option.{none, some}
@@ -11,7 +11,7 @@ use Rattle.words.specs.Bytes.{bytesOf}
 use Rattle.words.specs.Memory.{zeroed}
 use Rattle.contexts.specs.declared.Context.{Context}
 use Rattle.trees.specs.Fragment.{Fragment}
-use Rattle.trees.specs.Reading.{Answer, refused, done, _>>=_, orRefuse}
+use Rattle.trees.specs.Reading.{Answer, refused, done, _>>=_, orRefuse, maxRecords}
 use Rattle.trees.specs.TreeCheck.{badContext, badWork, contextOf, typedTreeOf}
 use Rattle.script_machine.specs.Numbers.{Bytes}
 use Rattle.script_bytes.specs.Tables.{Tables}
@@ -27,9 +27,9 @@ use Rattle.spend_log.specs.Written.{severalBytes}
 abbrev pub badLog : ℕ
 badLog = 14
 
--- the one length of work memory, in words: two for each element that a stack may hold
+-- the one length of work memory, in words: two for each element that the main stack and the alternate stack may hold, one for each record
 abbrev pub replayWords : ℕ
-replayWords = 2 * maxElements
+replayWords = 2 * maxElements + 2 * maxElements + maxRecords
 
 -- an entry's number and its verdict, and their 8 bytes
 abbrev pub Report : Type 0

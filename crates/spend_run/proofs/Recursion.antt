@@ -1,17 +1,17 @@
 -- A record's script is run once its children's are, one after another. Assumes nothing.
-use Prim.Native.Nat.{ℕ, _≤_, _<_}
+use Prim.Native.Nat.{ℕ, _+_, _-_, _≤_, _<_}
 use mathlib.Core.Bool.{Bool, true, false, not, false≢true}
-use mathlib.Core.List.{List, [], map}
+use mathlib.Core.List.{List, [], map, _++_}
 use mathlib.Core.Path.{_≡_, refl, sym, ap, subst, _∙_}
 use native.Mathlib.Omega.{arith}
-use lib.ListN.{length, getD}
+use lib.ListN.{length, getD, take, drop}
 use Rattle.contexts.specs.declared.Context.{Context}
 use Rattle.records.specs.Payloads.{childrenOf}
 use Rattle.trees.specs.Fragment.{Fragment}
-use Rattle.walk.specs.TreeRecords.{TreeRecord, recordAt, fragmentAt}
+use Rattle.walk.specs.TreeRecords.{lengthFrom, TreeRecord, recordAt, fragmentAt}
 use Rattle.walk.specs.declared.Node.{Node}
-use Rattle.walk.specs.Nodes.{nodeOf}
-use Rattle.walk.proofs.Laws.{few, child-before, childless-kind}
+use Rattle.walk.specs.Nodes.{nodeOf, Placed}
+use Rattle.walk.proofs.Laws.{few, child-before, childless-kind, ends-inside, its-bytes}
 use Rattle.script_machine.specs.Numbers.{Bytes}
 use Rattle.script_machine.specs.Machine.{State, state}
 use Rattle.script_machine.specs.Translation.{script}
@@ -28,8 +28,9 @@ use Rattle.spend_log.specs.Places.{tablesIn}
 use Rattle.spend_stack.specs.declared.Machine.{Machine}
 use Rattle.spend_stack.specs.declared.Status.{Status}
 use Rattle.spend_stack.specs.declared.Status.the-variants as Status
+use Rattle.spend_stack.specs.Memory.{workWords, mainIn, altIn}
 use Rattle.spend_stack.specs.Machines.{stackOf, going, isGoing, standing, leftOf, runOf, Fits}
-use Rattle.spend_leaves.specs.Acting.{Acts}
+use Rattle.spend_stack.proofs.Memory.{main-back}
 use Rattle.spend_run.specs.declared.Turn.{Turn}
 use Rattle.spend_run.specs.Running.{Runs, Played}
 use Rattle.spend_run.specs.Turns.{starting, behind, ending, Turns, Moves}
@@ -38,10 +39,6 @@ use Rattle.spend_run.proofs.Continuing.{Continues, RunsAs, runs-as}
 -- the measure
 pub below : {a b t : ℕ} → a < b → b ≡ t → a < t
 below {a} h e = subst (λ (n : ℕ). a < n) e h
-
--- the alternate stack's memory is as long as it was
-pub room : {a b d : ℕ} → 8192 ≤ a → b ≡ a → d ≡ b → 8192 ≤ d
-room h e f = omega arith
 
 pub not-true : (b : Bool) → not b ≡ true → b ≡ false
 not-true true e = sym e
@@ -64,8 +61,6 @@ not-played {c} {log} {h} {tree} {i} {main} {alt} {m} g f =
       says = stays-so c (tablesIn log h) (fragmentAt tree i) (m .status) (state (stackOf log main (m .main)) (stackOf log alt (m .alt)) [])
           (leftOf log m) g;
       fits = f;
-      same-main = refl;
-      same-alt = refl;
     }
 
 -- ---- a record
@@ -79,12 +74,10 @@ pub record Going (c : Context) (log : Bytes) (h : Offsets) (tree : List ℕ) (no
   pub says : (y : ℕ → Run → Run) → Continues c (tablesIn log h) (node .kind) (node .k) (node .n) (childRun c (tablesIn log h) tree node) y
       → y place (runOf log main alt m) ≡ y place₀ (runOf log main₀ alt₀ m₀)
   pub fits : Fits log main m
-  pub same-main : length main ≡ length main₀
-  pub same-alt : length alt ≡ length alt₀
 
 module _ {c : Context} {log : Bytes} {h : Offsets} {tree : List ℕ} {node : Node} where
   pub none-gone : {main alt : List ℕ} {p : ℕ} {m : Machine} → Fits log main m → Going c log h tree node main alt p m main alt p m
-  none-gone f = record { says = λ y g. refl; fits = f; same-main = refl; same-alt = refl }
+  none-gone f = record { says = λ y g. refl; fits = f }
 
   -- one child more, with what follows it
   pub one-gone : {main₀ alt₀ main₁ alt₁ main₂ alt₂ main₃ : List ℕ} {p₀ p : ℕ} {m₀ m₁ m₂ : Machine} {r : Turn}
@@ -99,17 +92,34 @@ module _ {c : Context} {log : Bytes} {h : Offsets} {tree : List ℕ} {node : Nod
         says = λ y g.
             v .says y ∙ ap (behind c t (node .kind) (node .n) p y) (x .says) ∙ sym (g .step p l (runOf log main₁ alt₁ m₁)) ∙ z .says y g;
         fits = v .fits;
-        same-main = v .same-main ∙ x .same-main ∙ z .same-main;
-        same-alt = x .same-alt ∙ z .same-alt;
       }
 
+  -- what follows it was done in the main stack's part of the memory
+  pub gone-back : {main₀ alt₀ : List ℕ} {p₀ p : ℕ} {m₀ m : Machine} (w : List ℕ) → length w ≡ workWords → (q : List ℕ) → length q ≡ length (mainIn w)
+      → Going c log h tree node main₀ alt₀ p₀ m₀ q (altIn w) p m
+      → Going c log h tree node main₀ alt₀ p₀ m₀ (mainIn (q ++ drop 8192 w)) (altIn (q ++ drop 8192 w)) p m
+  gone-back {main₀} {alt₀} {p₀} {p} {m₀} {m} w long q same x =
+      main-back w long q same (λ a b. Going c log h tree node main₀ alt₀ p₀ m₀ a b p m) x
+
+-- where a record ends and what stands between, by where it begins
+module _ {tree starts : List ℕ} {i start end : ℕ} (placed : Placed tree starts i) (begins : start ≡ getD starts i 0)
+    (ends : end ≡ start + lengthFrom tree start) where
+  its-end : end ≡ getD starts i 0 + lengthFrom tree (getD starts i 0)
+  its-end = subst (λ (n : ℕ). end ≡ n + lengthFrom tree n) begins ends
+
+  pub leaf-ends : end ≤ length tree
+  leaf-ends = ends-inside placed its-end
+
+  pub leaf-bytes : take (end - start) (drop start tree) ≡ recordAt tree i
+  leaf-bytes = subst (λ (n : ℕ). take (end - n) (drop n tree) ≡ recordAt tree i) (sym begins) (its-bytes placed its-end)
+
 module _ {c : Context} {log : Bytes} {h : Offsets} {tree starts : List ℕ} {i : ℕ} (runs : Runs c log h tree starts i) where
-  pub runs-below : (j : ℕ) → j < i → Runs c log h tree starts j
-  runs-below j l =
+  pub runs-below : {starts′ : List ℕ} (j : ℕ) → j < i → starts′ ≡ starts → Runs c log h tree starts′ j
+  runs-below j l e =
       record {
         lies = runs .lies;
         is-tree = runs .is-tree;
-        placed = λ n k. runs .placed n (omega arith);
+        placed = λ n k. rw e (runs .placed n (omega arith));
         entries = λ n k. runs .entries n (omega arith);
       }
 
@@ -124,17 +134,15 @@ module _ {c : Context} {log : Bytes} {h : Offsets} {tree starts : List ℕ} {i :
     child-less j l = subst (λ (x : Node). j < x .n → getD (x .children) j 0 < i) (sym is) (child-before its-row j) l
 
     -- a leaf
-    pub leaf-played : {main main′ : List ℕ} {m r : Machine} (alt : List ℕ) → node .n ≡ 0
-        → Acts (plays c (tablesIn log h) (leafOf (recordAt tree i))) log main main′ m r → Played c log h tree i main alt main′ alt m r
-    leaf-played {main} {m = m} alt z a =
+    pub leaf-played : {main alt main′ alt′ : List ℕ} {m r : Machine} → node .n ≡ 0
+        → Moves (plays c (tablesIn log h) (leafOf (recordAt tree i))) log main alt main′ alt′ m r → Played c log h tree i main alt main′ alt′ m r
+    leaf-played {main} {alt} {m = m} z a =
         let here : leafOf (recordAt tree i) ≡ fragmentAt tree i =
         leaf-is (recordAt tree i) (its-row .fits) (map (fragmentAt tree) (childrenOf (its-row .payload))) (its-row .makes)
         (childless-kind its-row (sym (ap (λ (x : Node). x .n) is) ∙ z)) in
         record {
-          says = a .says alt ∙ ap (λ (f : Fragment). plays c (tablesIn log h) f (runOf log main alt m)) here;
+          says = a .says ∙ ap (λ (f : Fragment). plays c (tablesIn log h) f (runOf log main alt m)) here;
           fits = a .fits;
-          same-main = a .same;
-          same-alt = refl;
         }
 
     as-node : (node .n ≡ 0 → ⊥) → RunsAs c (tablesIn log h) (node .kind) (node .k) (node .n) (childRun c (tablesIn log h) tree node) (fragmentAt tree i)
@@ -158,6 +166,4 @@ module _ {c : Context} {log : Bytes} {h : Offsets} {tree starts : List ℕ} {i :
           says = v .says ∙ sym (z .goes .ends p l (runOf log main₂ alt₂ m₂)) ∙ gone .says (z .y) (z .goes) ∙ u .says (z .y)
               ∙ z .whole (runOf log main₀ alt₀ m₀);
           fits = v .fits;
-          same-main = v .same-main ∙ gone .same-main ∙ u .same-main;
-          same-alt = v .same-alt ∙ gone .same-alt ∙ u .same-alt;
         }

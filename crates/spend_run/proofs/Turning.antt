@@ -1,11 +1,11 @@
 -- What stands before, between and behind children, kind by kind. Assumes nothing.
 use Prim.Native.Nat.{ℕ, zero, suc, _+_, _<_}
 use mathlib.Core.Bool.{Bool, true, false, not, cond, false≢true}
-use mathlib.Core.List.{List, [], _∷_}
+use mathlib.Core.List.{List, [], _∷_, _++_}
 use mathlib.Core.Logic.{_≢_}
 use mathlib.Core.Path.{_≡_, refl, sym, ap, _∙_}
 use borrow.Author.Tests.{ne-eqb}
-use lib.ListN.{length}
+use lib.ListN.{length, drop}
 use Rattle.contexts.specs.declared.Context.{Context}
 use Rattle.trees.specs.Tree.{find}
 use Rattle.script_machine.specs.Numbers.{Stack}
@@ -19,9 +19,12 @@ use Rattle.spend_stack.specs.declared.Machine.{Machine}
 use Rattle.spend_stack.specs.declared.Status.{Status}
 use Rattle.spend_stack.specs.declared.Status.the-variants as Status
 use Rattle.spend_stack.specs.Machines.{stackOf, going, isGoing, standing, leftOf, runOf, Fits, Does, DoesBoth}
+use Rattle.spend_stack.specs.Memory.{workWords, mainIn, altIn}
 use Rattle.spend_stack.specs.Pieces.{Opens}
 use Rattle.spend_stack.specs.Pieces as Pieces
+use Rattle.spend_stack.proofs.Memory.{main-back}
 use Rattle.spend_stack.proofs.Laws.{goes}
+use Rattle.spend_leaves.specs.Acting.{Acts}
 use Rattle.spend_run.specs.declared.Turn.{Turn}
 use Rattle.spend_run.specs.Turns.{branching, starting, behindFirst, behindLater, behind, ending, Turns, Moves}
 
@@ -55,8 +58,7 @@ module _ (holding failing : ℕ) {c : Context} {log main : List ℕ} {m a : Mach
       record {
         says = λ y. ap (y holding) (o .says alt) ∙ rw (sym (h alt) ∙ e);
         fits = o .fits;
-        same-main = refl;
-        same-alt = refl;
+        same = refl;
       }
 
   pub branches-no : b ≡ false → (t : Tables) (alt : List ℕ)
@@ -65,8 +67,7 @@ module _ (holding failing : ℕ) {c : Context} {log main : List ℕ} {m a : Mach
       record {
         says = λ y. ap (y failing) (o .says alt) ∙ rw (sym (h alt) ∙ e);
         fits = o .fits;
-        same-main = refl;
-        same-alt = refl;
+        same = refl;
       }
 
 -- ---- turns and words
@@ -79,15 +80,14 @@ module _ {log main alt main′ alt′ : List ℕ} {m : Machine} {r : Turn} where
       record {
         says = λ y. x .says y ∙ e y (runOf log main alt m);
         fits = x .fits;
-        same-main = x .same-main;
-        same-alt = x .same-alt;
+        same = x .same;
       }
 
 module _ {log : List ℕ} where
   -- no word at all
   pub stays-at : {main : List ℕ} {m : Machine} (alt : List ℕ) (p : ℕ) → Fits log main m
       → Turns (λ y. y p) log main alt main alt m (record { place = p; m = m })
-  stays-at alt p f = record { says = λ y. refl; fits = f; same-main = refl; same-alt = refl }
+  stays-at alt p f = record { says = λ y. refl; fits = f; same = refl }
 
   -- a word in front of a turn, and one before a child
   module _ (c : Context) (t : Tables) where
@@ -97,26 +97,25 @@ module _ {log : List ℕ} where
         record {
           says = λ y. z .says y ∙ ap (g y) (x .says c t alt);
           fits = z .fits;
-          same-main = z .same-main ∙ x .same;
-          same-alt = refl;
+          same = z .same ∙ x .same;
         }
 
     pub word-at : {w : Word} {a b : List ℕ} {m q : Machine} (alt : List ℕ) (p : ℕ) → Does w log a b m q
         → Turns (λ y s. y p (recordedStep c t w s)) log a alt b alt m (record { place = p; m = q })
-    word-at alt p x = record { says = λ y. ap (y p) (x .says c t alt); fits = x .fits; same-main = x .same; same-alt = refl }
+    word-at alt p x = record { says = λ y. ap (y p) (x .says c t alt); fits = x .fits; same = x .same }
 
     pub both-at : {w : Word} {a b alt alt′ : List ℕ} {m q : Machine} (p : ℕ) → DoesBoth w log a alt b alt′ m q
         → Turns (λ y s. y p (recordedStep c t w s)) log a alt b alt′ m (record { place = p; m = q })
-    both-at p x = record { says = λ y. ap (y p) (x .says c t); fits = x .fits; same-main = x .same-main; same-alt = x .same-alt }
+    both-at p x = record { says = λ y. ap (y p) (x .says c t); fits = x .fits; same = x .same }
 
     -- words at the end
     pub word-moves : {w : Word} {a b : List ℕ} {m q : Machine} (alt : List ℕ) → Does w log a b m q
         → Moves (recordedStep c t w) log a alt b alt m q
-    word-moves alt x = record { says = x .says c t alt; fits = x .fits; same-main = x .same; same-alt = refl }
+    word-moves alt x = record { says = x .says c t alt; fits = x .fits; same = x .same }
 
     pub both-moves : {w : Word} {a b alt alt′ : List ℕ} {m q : Machine} → DoesBoth w log a alt b alt′ m q
         → Moves (recordedStep c t w) log a alt b alt′ m q
-    both-moves x = record { says = x .says c t; fits = x .fits; same-main = x .same-main; same-alt = x .same-alt }
+    both-moves x = record { says = x .says c t; fits = x .fits; same = x .same }
 
     pub two-move : {v w : Word} {a b d : List ℕ} {m q r : Machine} (alt : List ℕ) → Does v log a b m q → Does w log b d q r
         → Moves (λ s. recordedStep c t w (recordedStep c t v s)) log a alt d alt m r
@@ -124,17 +123,30 @@ module _ {log : List ℕ} where
         record {
           says = z .says c t alt ∙ ap (recordedStep c t w) (x .says c t alt);
           fits = z .fits;
-          same-main = z .same ∙ x .same;
-          same-alt = refl;
+          same = z .same ∙ x .same;
         }
 
   pub no-move : {main : List ℕ} {m : Machine} (alt : List ℕ) → Fits log main m → Moves (λ s. s) log main alt main alt m m
-  no-move alt f = record { says = refl; fits = f; same-main = refl; same-alt = refl }
+  no-move alt f = record { says = refl; fits = f; same = refl }
 
 module _ {log main alt main′ alt′ : List ℕ} {m r : Machine} where
   pub moves-as : {g h : Run → Run} → ((s : Run) → g s ≡ h s) → Moves g log main alt main′ alt′ m r → Moves h log main alt main′ alt′ m r
   moves-as e x =
-      record { says = x .says ∙ e (runOf log main alt m); fits = x .fits; same-main = x .same-main; same-alt = x .same-alt }
+      record { says = x .says ∙ e (runOf log main alt m); fits = x .fits; same = x .same }
+
+-- ---- in the main stack's part of the memory
+
+pub acts-moves : {g : Run → Run} {log a b : List ℕ} {m r : Machine} (alt : List ℕ) → Acts g log a b m r → Moves g log a alt b alt m r
+acts-moves alt x = record { says = x .says alt; fits = x .fits; same = x .same }
+
+module _ {log main alt : List ℕ} {m : Machine} (w : List ℕ) (long : length w ≡ workWords) (p : List ℕ) (same : length p ≡ length (mainIn w)) where
+  pub turns-back : {g : (ℕ → Run → Run) → Run → Run} {r : Turn} → Turns g log main alt p (altIn w) m r
+      → Turns g log main alt (mainIn (p ++ drop 8192 w)) (altIn (p ++ drop 8192 w)) m r
+  turns-back {g} {r} x = main-back w long p same (λ a b. Turns g log main alt a b m r) x
+
+  pub moves-back : {g : Run → Run} {r : Machine} → Moves g log main alt p (altIn w) m r
+      → Moves g log main alt (mainIn (p ++ drop 8192 w)) (altIn (p ++ drop 8192 w)) m r
+  moves-back {g} {r} x = main-back w long p same (λ a b. Moves g log main alt a b m r) x
 
 -- ---- by kind
 

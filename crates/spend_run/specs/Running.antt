@@ -3,7 +3,6 @@ use Prim.Native.Nat.{ℕ, _≤_}
 use mathlib.Core.Bool.{true}
 use mathlib.Core.List.{List}
 use mathlib.Core.Path.{_≡_}
-use lib.ListN.{length}
 use Rattle.contexts.specs.declared.Context.{Context}
 use Rattle.walk.specs.TreeRecords.{recordAt, fragmentAt}
 use Rattle.walk.specs.Nodes.{Placed}
@@ -27,5 +26,3 @@ pub record Runs (c : Context) (log : Bytes) (h : Offsets) (tree starts : List �
 pub record Played (c : Context) (log : Bytes) (h : Offsets) (tree : List ℕ) (i : ℕ) (main alt main′ alt′ : List ℕ) (m r : Machine) : Type 0 where
   pub says : runOf log main′ alt′ r ≡ plays c (tablesIn log h) (fragmentAt tree i) (runOf log main alt m)
   pub fits : Fits log main′ r
-  pub same-main : length main′ ≡ length main
-  pub same-alt : length alt′ ≡ length alt

@@ -83,12 +83,10 @@ module _ (c : Context) (t : Tables) where
 pub record Turns (g : (ℕ → Run → Run) → Run → Run) (log main alt main′ alt′ : List ℕ) (m : Machine) (r : Turn) : Type 0 where
   pub says : (y : ℕ → Run → Run) → y (r .place) (runOf log main′ alt′ (r .m)) ≡ g y (runOf log main alt m)
   pub fits : Fits log main′ (r .m)
-  pub same-main : length main′ ≡ length main
-  pub same-alt : length alt′ ≡ length alt
+  pub same : length main′ ≡ length main
 
 -- the same with no child to come
 pub record Moves (g : Run → Run) (log main alt main′ alt′ : List ℕ) (m r : Machine) : Type 0 where
   pub says : runOf log main′ alt′ r ≡ g (runOf log main alt m)
   pub fits : Fits log main′ r
-  pub same-main : length main′ ≡ length main
-  pub same-alt : length alt′ ≡ length alt
+  pub same : length main′ ≡ length main

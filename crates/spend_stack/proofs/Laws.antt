@@ -2,9 +2,9 @@
 use Prim.Native.Nat.{ℕ, zero, suc, _+_, _*_, _-_, _≤_, _<_}
 use native.Mathlib.Omega.{arith}
 use mathlib.Core.Bool.{Bool, true, false, not, cond, false≢true}
-use mathlib.Core.List.{List, [], _∷_}
+use mathlib.Core.List.{List, [], _∷_, _++_}
 use mathlib.Core.Path.{_≡_, refl, _∙_, sym, ap}
-use lib.ListN.{length}
+use lib.ListN.{length, drop}
 use Rattle.contexts.specs.declared.Context.{Context}
 use Rattle.script_machine.specs.Numbers.{Bytes, Stack}
 use Rattle.script_machine.specs.Words.{Word, SWAP, TOALTSTACK, FROMALTSTACK}
@@ -18,9 +18,11 @@ use Rattle.spend_elements.specs.Elements.{bytesIn}
 use Rattle.spend_stack.specs.declared.Machine.{Machine}
 use Rattle.spend_stack.specs.declared.Status.{Status}
 use Rattle.spend_stack.specs.declared.Status.the-variants as Status
+use Rattle.spend_stack.specs.Memory.{workWords, mainIn, altIn}
 use Rattle.spend_stack.specs.Machines.{elementAt, putElement, stackOf, going, isGoing, withStatus, withMain, standing, leftOf, runOf}
 use Rattle.spend_stack.specs.Machines.{Asks, Fits, Over, pushed, Pushes, Does, DoesBoth}
 use Rattle.spend_stack.specs.Pieces.{Opens}
+use Rattle.spend_stack.proofs.Memory.{main-back, alt-back}
 use Rattle.spend_stack.proofs.Stacks.{put-length, height, put-top, none-on, one-on, within-few, within-many}
 
 -- how a machine stands
@@ -202,7 +204,7 @@ swaps {log} {before} {mid} {after} {m} {x} {y} g f two ex ey em ea h =
 
 -- words between the two stacks
 pub one-stack : {w : Word} {log main alt : List ℕ} {m r : Machine} → Does w log main main m r → DoesBoth w log main alt main alt m r
-one-stack {alt = alt} d = record { says = λ c t. d .says c t alt; fits = d .fits; same-main = refl; same-alt = refl }
+one-stack {alt = alt} d = record { says = λ c t. d .says c t alt; fits = d .fits; same = refl }
 
 module _ {log main alt : List ℕ} {m r : Machine} (g : isGoing m ≡ true) (f : Fits log main m) (wide : 8192 ≤ length alt) where
   pub to-alts : {alt′ : List ℕ} {e : Element} → 1 ≤ m .main → e ≡ elementAt main (m .main - 1) → alt′ ≡ putElement alt (m .alt) e
@@ -221,8 +223,7 @@ module _ {log main alt : List ℕ} {m r : Machine} (g : isGoing m ≡ true) (f :
             (rw (height log main (m .main - 1), height log alt (m .alt)) (omega arith)))
             ∙ sym (ap (recordedStep c t TOALTSTACK) (goes log main alt m g) ∙ rw (one-on log main (m .main) one) refl));
         fits = rw er (record { few = omega arith; room = f .room; asks = record { ends = f .asks .ends } });
-        same-main = refl;
-        same-alt = rw ea (put-length alt (m .alt) e);
+        same = refl;
       }
 
   pub from-alts : {main′ : List ℕ} {e : Element} → 1 ≤ m .alt → e ≡ elementAt alt (m .alt - 1) → main′ ≡ putElement main (m .main) e
@@ -242,8 +243,7 @@ module _ {log main alt : List ℕ} {m r : Machine} (g : isGoing m ≡ true) (f :
             (rw (height log main (m .main), height log alt (m .alt - 1)) (omega arith)))
             ∙ sym (ap (recordedStep c t FROMALTSTACK) (goes log main alt m g) ∙ rw (one-on log alt (m .alt) one) refl));
         fits = rw er (record { few = omega arith; room = rw ea (rw (put-length main (m .main) e) (f .room)); asks = record { ends = f .asks .ends } });
-        same-main = rw ea (put-length main (m .main) e);
-        same-alt = refl;
+        same = rw ea (put-length main (m .main) e);
       }
 
   pub no-alt : m .alt < 1 → r ≡ withStatus m Status.Aborted → DoesBoth FROMALTSTACK log main alt main alt m r
@@ -252,9 +252,18 @@ module _ {log main alt : List ℕ} {m r : Machine} (g : isGoing m ≡ true) (f :
       record {
         says = λ c t. rw er (sym (ap (recordedStep c t FROMALTSTACK) (goes log main alt m g) ∙ rw (none-on log alt (m .alt) none) refl));
         fits = rw er (record { few = f .few; room = f .room; asks = record { ends = f .asks .ends } });
-        same-main = refl;
-        same-alt = refl;
+        same = refl;
       }
+
+-- the part that was lent for the element, put back into the memory
+module _ {w : Word} {log main alt : List ℕ} {m r : Machine} (work : List ℕ) (long : length work ≡ workWords) (p : List ℕ) where
+  pub moved-up : length p ≡ length (altIn work) → DoesBoth w log main alt (mainIn work) p m r
+      → DoesBoth w log main alt (mainIn (mainIn work ++ (p ++ drop 8192 (drop 8192 work)))) (altIn (mainIn work ++ (p ++ drop 8192 (drop 8192 work)))) m r
+  moved-up same x = alt-back work long p same (λ a b. DoesBoth w log main alt a b m r) x
+
+  pub moved-down : length p ≡ length (mainIn work) → DoesBoth w log main alt p (altIn work) m r
+      → DoesBoth w log main alt (mainIn (p ++ drop 8192 work)) (altIn (p ++ drop 8192 work)) m r
+  moved-down same x = main-back work long p same (λ a b. DoesBoth w log main alt a b m r) x
 
 -- IF and NOTIF
 opened-so : (c : Context) (s : Status) (x : State) (rs : List Outcome) → going s ≡ false → standing s x rs ≡ opened c (standing s x rs)

@@ -105,5 +105,4 @@ pub record Does (w : Word) (log before after : List ℕ) (m r : Machine) : Type 
 pub record DoesBoth (w : Word) (log main alt main′ alt′ : List ℕ) (m r : Machine) : Type 0 where
   pub says : (c : Context) (t : Tables) → runOf log main′ alt′ r ≡ recordedStep c t w (runOf log main alt m)
   pub fits : Fits log main′ r
-  pub same-main : length main′ ≡ length main
-  pub same-alt : length alt′ ≡ length alt
+  pub same : length main′ ≡ length main

@@ -1,8 +1,8 @@
 // The replay's stacks in lent memory, and what each word of Script that asks nothing does to them.
 //
-// A word takes the log, the memory of the main stack (and of the alternate stack, if it touches that) and the machine, and gives the machine
-// behind it; where the run goes no further it changes nothing. Its contract cites `spend_machine`, specs/Recorded.antt, through
-// specs/Machines.antt, which says what run a machine and its memory stand for.
+// A word takes the log, the memory of the main stack (the memory of both stacks, if it moves an element between them) and the machine, and gives
+// the machine behind it; where the run goes no further it changes nothing. Its contract cites `spend_machine`, specs/Recorded.antt, through
+// specs/Machines.antt, which says what run a machine and its memory stand for; specs/Memory.antt says where the stacks lie.
 ghost use mathlib.Core.Path.{_≡_};
 ghost use mathlib.Core.List.{List};
 ghost use mathlib.Core.Bool.{_&&_, _||_};
@@ -11,11 +11,20 @@ ghost use lib.ListN.{length};
 ghost use Rattle.script_machine.specs.Words.{DUP, IFDUP, SWAP, SIZE, TOALTSTACK, FROMALTSTACK, VERIFY, 0NOTEQUAL, EQUAL};
 ghost use Rattle.spend_elements.specs.Elements.{bytesIn};
 ghost use Rattle.spend_elements.specs.Signed.{valueIn};
+ghost use Rattle.spend_stack.specs.Memory.{workWords, mainIn, altIn, Keeps};
 ghost use Rattle.spend_stack.specs.Machines.{elementAt, putElement, stackOf, isGoing, withStatus, withMain, Fits, Over, Does, DoesBoth, Pushes};
 ghost use Rattle.spend_stack.specs.Pieces.{combine, wordOf, topTrue, Opens};
 use contexts::Context;
 use spend_elements::Element;
 use spend_elements::Number;
+
+// Where the alternate stack begins in the replay's memory, behind the main stack, and behind both the places of the tree's records.
+pub const ALT: usize = 8192;
+
+pub const STARTS: usize = 16384;
+
+// The one length of that memory, in words.
+pub const WORDS: usize = 20480;
 
 // How a run stands: it goes on, has aborted, lacked an outcome or met one of the wrong sort, or left too many elements.
 pub enum Status {
@@ -194,10 +203,11 @@ pub fn swap(log: &[u8], main: &mut [u64], m: Machine) -> Machine
 }
 
 // TOALTSTACK.
-pub fn to_alt(log: &[u8], main: &mut [u64], alt: &mut [u64], m: Machine) -> Machine
-    requires { ⌜ Fits (now log) (now main) m × (8192 ≤ length (now alt)) ⌝ }
-    ensures { λ r. ⌜ DoesBoth TOALTSTACK (now (log .entry)) (now (main .entry)) (now (alt .entry))
-        (now (main .exit)) (now (alt .exit)) m r ⌝ }
+pub fn to_alt(log: &[u8], work: &mut [u64], m: Machine) -> Machine
+    requires { ⌜ Fits (now log) (mainIn (now work)) m × (length (now work) ≡ workWords) ⌝ }
+    ensures { λ r. ⌜ DoesBoth TOALTSTACK (now (log .entry)) (mainIn (now (work .entry))) (altIn (now (work .entry)))
+        (mainIn (now (work .exit))) (altIn (now (work .exit))) m r ⌝ }
+    ensures { λ _. ⌜ Keeps (now (work .entry)) (now (work .exit)) ⌝ }
 {
     if is_going(m) {
         let n = m.main;
@@ -205,8 +215,8 @@ pub fn to_alt(log: &[u8], main: &mut [u64], alt: &mut [u64], m: Machine) -> Mach
             return with_status(m, Status::Aborted);
         }
         let a = m.alt;
-        let e = get(main, n - 1);
-        put(alt, a, e);
+        let e = get(&work[0..ALT], n - 1);
+        put(&mut work[ALT..STARTS], a, e);
         return Machine {
             main: n - 1,
             alt: a + 1,
@@ -219,10 +229,11 @@ pub fn to_alt(log: &[u8], main: &mut [u64], alt: &mut [u64], m: Machine) -> Mach
 }
 
 // FROMALTSTACK.
-pub fn from_alt(log: &[u8], main: &mut [u64], alt: &mut [u64], m: Machine) -> Machine
-    requires { ⌜ Fits (now log) (now main) m × (8192 ≤ length (now alt)) ⌝ }
-    ensures { λ r. ⌜ DoesBoth FROMALTSTACK (now (log .entry)) (now (main .entry)) (now (alt .entry))
-        (now (main .exit)) (now (alt .exit)) m r ⌝ }
+pub fn from_alt(log: &[u8], work: &mut [u64], m: Machine) -> Machine
+    requires { ⌜ Fits (now log) (mainIn (now work)) m × (length (now work) ≡ workWords) ⌝ }
+    ensures { λ r. ⌜ DoesBoth FROMALTSTACK (now (log .entry)) (mainIn (now (work .entry))) (altIn (now (work .entry)))
+        (mainIn (now (work .exit))) (altIn (now (work .exit))) m r ⌝ }
+    ensures { λ _. ⌜ Keeps (now (work .entry)) (now (work .exit)) ⌝ }
 {
     if is_going(m) {
         let a = m.alt;
@@ -230,8 +241,8 @@ pub fn from_alt(log: &[u8], main: &mut [u64], alt: &mut [u64], m: Machine) -> Ma
             return with_status(m, Status::Aborted);
         }
         let n = m.main;
-        let e = get(alt, a - 1);
-        put(main, n, e);
+        let e = get(&work[ALT..STARTS], a - 1);
+        put(&mut work[0..ALT], n, e);
         return Machine {
             main: n + 1,
             alt: a - 1,

@@ -22,7 +22,7 @@ const ROOM: usize = 4_194_305;
 const REPORTS_ROOM: usize = 2_581_088;
 
 // The words of work memory that the replay takes.
-const WORK_WORDS: usize = 8_192;
+const WORK_WORDS: usize = 20_480;
 
 // Says what is wrong with the words, and which are right.
 fn usage(wrong: &[u8]) {

@@ -1,140 +1,71 @@
--- `spend_run::finish` meets its contract, kind by kind. Assumes nothing.
-use mathlib.Core.Path.{_∙_}
-use Rattle.spend_run.proofs.Turning.{moves-as, word-moves, both-moves, two-move, no-move, end-alt, end-check, end-verify, end-zero-not-equal, end-and-b, end-or-b, end-thresh, end-other}
+-- `spend_run::finish` meets its contract: on both stacks, or in the main stack's part of the memory. Assumes nothing.
+use mathlib.Core.List.{[]}
+use mathlib.Core.Path.{_≡_}
+use lib.ListN.{length}
+use Rattle.contexts.specs.declared.Context.the-variants.{Segwitv0}
+use Rattle.script_bytes.specs.Tables.{tables}
+use Rattle.spend_stack.specs.Memory.{mainIn, altIn}
+use Rattle.spend_stack.proofs.Memory.{main-keeps}
+use Rattle.spend_run.proofs.Turning.{moves-as, both-moves, moves-back, end-alt}
+use borrow.Author.Needs.{needs}
 use Rattle.spend_run.proofs.finish.Statement.{statement}
 use Rattle.spend_run.proofs.finish.Tie as tie
 
 from-alt-requires : tie.Need-from-alt-requires
-from-alt-requires c κs = c .before .before .before .before .before .before .pre
-
-check-sig-requires : tie.Need-check-sig-requires
-check-sig-requires c κs = c .before .before .before .before .before .pre .0
-
-verify-requires : tie.Need-verify-requires
-verify-requires c κs = c .before .before .before .before .before .pre .0
-
-zero-not-equal-requires : tie.Need-zero-not-equal-requires
-zero-not-equal-requires c κs = c .before .before .before .before .before .pre .0
-
-two-numbers-requires : tie.Need-two-numbers-requires
-two-numbers-requires c κs = c .before .before .before .before .before .pre .0
-
-two-numbers-requires-2 : tie.Need-two-numbers-requires-2
-two-numbers-requires-2 c κs = c .before .before .before .before .before .pre .0
-
-push-number-requires : tie.Need-push-number-requires
-push-number-requires c κs = c .before .before .before .before .before .pre .0
-
-equal-requires : tie.Need-equal-requires
-equal-requires c κs = c .before .before .before .push-number .ensures .fits
+from-alt-requires c κs =
+    let pre = c .before .before .before .before .pre in
+    (pre .0, pre .1)
 
 same-length : tie.Need-same-length
-same-length c = c .before .before .before .before .from-alt .ensures .same-main
-
-same-length-2 : tie.Need-same-length-2
-same-length-2 c = c .before .before .before .before .from-alt .ensures .same-alt
+same-length c = search needs
 
 returns : tie.Need-returns
 returns c =
-    let args = c .before .before .before .before .before .before .before .before .before .before .before .args in
-    let match = c .before .before .before .before .before .before .before .match in
-    let from-alt = c .before .before .before .before .from-alt in
-    λ z t. moves-as (λ s. end-alt z t (args .kind) (args .k) s (match .keys1)) (both-moves z t (from-alt .ensures))
+    let args = c .before .before .before .before .before .before .before .args in
+    let if1 = c .before .before .before .before .if1 in
+    let from-alt = c .before .before .from-alt in (
+      λ z t. moves-as (λ s. end-alt z t (args .kind) (args .k) s (if1 .taken)) (both-moves z t (from-alt .ensures .0)),
+      from-alt .ensures .1,
+    )
 
-same-length-3 : tie.Need-same-length-3
-same-length-3 c = c .before .before .check-sig .ensures .same
+sub-finish-on-main : tie.Need-sub-finish-on-main
+sub-finish-on-main c = search needs
+
+part-finish-on-main-start : tie.Need-part-finish-on-main-start
+part-finish-on-main-start c = search needs
+
+part-finish-on-main-end : tie.Need-part-finish-on-main-end
+part-finish-on-main-end c = search needs
+
+finish-on-main-requires : tie.Need-finish-on-main-requires
+finish-on-main-requires c κs =
+    let pre = c .before .before .before .before .pre in
+    let if1 = c .before .if1 in
+    (pre .0, if1 .left)
+
+same-length-2 : tie.Need-same-length-2
+same-length-2 c = search needs
 
 returns-2 : tie.Need-returns-2
 returns-2 c =
-    let args = c .before .before .before .before .before .before .before .before .args in
-    let match = c .before .before .before .before .match in
-    let check-sig = c .before .before .check-sig in
-    λ z t. moves-as (λ s. end-check z t (args .kind) (args .k) s (match .keys2)) (word-moves z t (args .alt .now) (check-sig .ensures))
-
-same-length-4 : tie.Need-same-length-4
-same-length-4 c = c .before .before .verify .ensures .same
-
-returns-3 : tie.Need-returns-3
-returns-3 c =
-    let args = c .before .before .before .before .before .before .before .before .args in
-    let match = c .before .before .before .before .match in
-    let verify = c .before .before .verify in
-    λ z t. moves-as (λ s. end-verify z t (args .kind) (args .k) s (match .keys3)) (word-moves z t (args .alt .now) (verify .ensures))
-
-same-length-5 : tie.Need-same-length-5
-same-length-5 c = c .before .before .zero-not-equal .ensures .same
-
-returns-4 : tie.Need-returns-4
-returns-4 c =
-    let args = c .before .before .before .before .before .before .before .before .args in
-    let match = c .before .before .before .before .match in
-    let zero-not-equal = c .before .before .zero-not-equal in
-    λ z t. moves-as (λ s. end-zero-not-equal z t (args .kind) (args .k) s (match .keys4)) (word-moves z t (args .alt .now) (zero-not-equal .ensures))
-
-same-length-6 : tie.Need-same-length-6
-same-length-6 c = c .before .before .two-numbers .ensures .same
-
-returns-5 : tie.Need-returns-5
-returns-5 c =
-    let args = c .before .before .before .before .before .before .before .before .args in
-    let match = c .before .before .before .before .match in
-    let two-numbers = c .before .before .two-numbers in
-    λ z t. moves-as (λ s. end-and-b z t (args .kind) (args .k) s (match .keys5)) (word-moves z t (args .alt .now) (two-numbers .ensures))
-
-same-length-7 : tie.Need-same-length-7
-same-length-7 c = c .before .before .two-numbers2 .ensures .same
-
-returns-6 : tie.Need-returns-6
-returns-6 c =
-    let args = c .before .before .before .before .before .before .before .before .args in
-    let match = c .before .before .before .before .match in
-    let two-numbers2 = c .before .before .two-numbers2 in
-    λ z t. moves-as (λ s. end-or-b z t (args .kind) (args .k) s (match .keys6)) (word-moves z t (args .alt .now) (two-numbers2 .ensures))
-
-same-length-8 : tie.Need-same-length-8
-same-length-8 c = c .before .before .equal .ensures .same ∙ c .before .before .before .before .before .before .push-number .ensures .same
-
-returns-7 : tie.Need-returns-7
-returns-7 c =
-    let args = c .before .before .before .before .before .before .before .before .before .before .before .before .args in
-    let match = c .before .before .before .before .before .before .before .before .match in
-    let push-number = c .before .before .before .before .before .before .push-number in
-    let equal = c .before .before .equal in
-    λ z t. moves-as (λ s. end-thresh z t (args .kind) (args .k) s (match .keys7)) (two-move z t (args .alt .now) (push-number .ensures) (equal .ensures))
-
-returns-8 : tie.Need-returns-8
-returns-8 c =
-    let args = c .before .before .before .before .args in
-    let pre = c .before .before .before .before .pre in
-    λ z t. moves-as (λ s. end-other z t (args .kind) (args .k) s (c .match .rest .0 .0 .0 .0 .0 .0 .1) (c .match .rest .0 .0 .0 .0 .0 .1)
-    (c .match .rest .0 .0 .0 .0 .1) (c .match .rest .0 .0 .0 .1) (c .match .rest .0 .0 .1) (c .match .rest .0 .1) (c .match .rest .1)) (no-move
-    (args .alt .now) (pre .0))
+    let args = c .before .before .before .before .before .before .before .args in
+    let finish-on-main = c .before .before .finish-on-main in
+    let pre = c .before .before .before .before .before .before .before .pre in
+    let w = args .work .now in
+    let p = finish-on-main .last .1 .1 .1 .0 in
+    let same : length p ≡ length (mainIn w) = finish-on-main .ensures Segwitv0 (tables [] [] [] []) [] .same in
+    (λ z t. moves-back w (pre .1) p same (finish-on-main .ensures z t (altIn w)), main-keeps w (pre .1) p same)
 
 pub finish-spec : {M : Type 1} → statement M
 finish-spec =
     tie.close
     (tie.spec
     from-alt-requires
-    check-sig-requires
-    verify-requires
-    zero-not-equal-requires
-    two-numbers-requires
-    two-numbers-requires-2
-    push-number-requires
-    equal-requires
     same-length
-    same-length-2
     returns
-    same-length-3
-    returns-2
-    same-length-4
-    returns-3
-    same-length-5
-    returns-4
-    same-length-6
-    returns-5
-    same-length-7
-    returns-6
-    same-length-8
-    returns-7
-    returns-8)
+    sub-finish-on-main
+    part-finish-on-main-start
+    part-finish-on-main-end
+    finish-on-main-requires
+    same-length-2
+    returns-2)

@@ -1,120 +1,70 @@
--- `spend_run::start` meets its contract, kind by kind. Assumes nothing.
-use mathlib.Core.Path.{refl, _∙_}
-use Rattle.spend_run.proofs.Turning.{turns-as, stays-at, word-turn, word-at, both-at, start-alt, start-swap, start-dup-if, start-non-zero, start-or-i, start-other}
+-- `spend_run::start` meets its contract: on both stacks, or in the main stack's part of the memory. Assumes nothing.
+use mathlib.Core.List.{[]}
+use mathlib.Core.Path.{_≡_}
+use lib.ListN.{length}
+use Rattle.script_bytes.specs.Tables.{tables}
+use Rattle.spend_stack.specs.Memory.{mainIn, altIn}
+use Rattle.spend_stack.proofs.Memory.{main-keeps}
+use Rattle.spend_run.proofs.Turning.{turns-as, both-at, turns-back, start-alt}
+use borrow.Author.Needs.{needs}
 use Rattle.spend_run.proofs.start.Statement.{statement}
 use Rattle.spend_run.proofs.start.Tie as tie
 
 to-alt-requires : tie.Need-to-alt-requires
-to-alt-requires c κs = c .before .before .before .before .before .before .pre
-
-swap-requires : tie.Need-swap-requires
-swap-requires c κs = c .before .before .before .before .before .pre .0
-
-dup-requires : tie.Need-dup-requires
-dup-requires c κs = c .before .before .before .before .before .pre .0
-
-branch-requires : tie.Need-branch-requires
-branch-requires c κs = c .before .before .before .dup .ensures .fits
-
-size-requires : tie.Need-size-requires
-size-requires c κs = c .before .before .before .before .before .pre .0
-
-zero-not-equal-requires : tie.Need-zero-not-equal-requires
-zero-not-equal-requires c κs = c .before .before .before .size .ensures .fits
-
-branch-requires-2 : tie.Need-branch-requires-2
-branch-requires-2 c κs = c .before .before .before .zero-not-equal .ensures .fits
-
-branch-requires-3 : tie.Need-branch-requires-3
-branch-requires-3 c κs = c .before .before .before .before .before .pre .0
+to-alt-requires c κs =
+    let pre = c .before .before .before .before .pre in
+    (pre .0, pre .1)
 
 same-length : tie.Need-same-length
-same-length c = c .before .before .before .before .to-alt .ensures .same-main
-
-same-length-2 : tie.Need-same-length-2
-same-length-2 c = c .before .before .before .before .to-alt .ensures .same-alt
+same-length c = search needs
 
 returns : tie.Need-returns
 returns c =
-    let args = c .before .before .before .before .before .before .before .before .before .before .before .args in
-    let match = c .before .before .before .before .before .before .before .match in
-    let to-alt = c .before .before .before .before .to-alt in
-    λ t. turns-as (λ y s. start-alt (args .context) t (args .kind) (args .n) y s (match .keys1)) (both-at (args .context) t 0 (to-alt .ensures))
+    let args = c .before .before .before .before .before .before .before .args in
+    let if1 = c .before .before .before .before .if1 in
+    let to-alt = c .before .before .to-alt in (
+      λ t. turns-as (λ y s. start-alt (args .context) t (args .kind) (args .n) y s (if1 .taken)) (both-at (args .context) t 0 (to-alt .ensures .0)),
+      to-alt .ensures .1,
+    )
 
-same-length-3 : tie.Need-same-length-3
-same-length-3 c = c .before .before .swap .ensures .same
+sub-start-on-main : tie.Need-sub-start-on-main
+sub-start-on-main c = search needs
+
+part-start-on-main-start : tie.Need-part-start-on-main-start
+part-start-on-main-start c = search needs
+
+part-start-on-main-end : tie.Need-part-start-on-main-end
+part-start-on-main-end c = search needs
+
+start-on-main-requires : tie.Need-start-on-main-requires
+start-on-main-requires c κs =
+    let pre = c .before .before .before .before .pre in
+    let if1 = c .before .if1 in
+    (pre .0, if1 .left)
+
+same-length-2 : tie.Need-same-length-2
+same-length-2 c = search needs
 
 returns-2 : tie.Need-returns-2
 returns-2 c =
-    let args = c .before .before .before .before .before .before .before .before .args in
-    let match = c .before .before .before .before .match in
-    let swap = c .before .before .swap in
-    λ t. turns-as (λ y s. start-swap (args .context) t (args .kind) (args .n) y s (match .keys2)) (word-at (args .context) t (args .alt .now) 0 (swap .ensures))
-
-same-length-4 : tie.Need-same-length-4
-same-length-4 c = c .before .before .before .before .dup .ensures .same
-
-returns-3 : tie.Need-returns-3
-returns-3 c =
-    let args = c .before .before .before .before .before .before .before .before .before .before .args in
-    let match = c .before .before .before .before .before .before .match in
-    let dup = c .before .before .before .before .dup in
-    λ t. turns-as (λ y s. start-dup-if (args .context) t (args .kind) (args .n) y s (match .keys3)) (word-turn (args .context) t (dup .ensures)
-    (c .branch .ensures .0 t (args .alt .now)))
-
-same-length-5 : tie.Need-same-length-5
-same-length-5 c =
-    let zero-not-equal = c .before .before .before .before .zero-not-equal in
-    let size = c .before .before .before .before .before .before .before .before .size in
-    zero-not-equal .ensures .same ∙ size .ensures .same
-
-returns-4 : tie.Need-returns-4
-returns-4 c =
-    let near = c .before .before .before .before .before .before .before .before .before .before in
-    let args = near .before .before .before .before .args in
-    let match = c .before .before .before .before .before .before .before .before .before .before .match in
-    let size = c .before .before .before .before .before .before .before .before .size in
-    let zero-not-equal = c .before .before .before .before .zero-not-equal in
-    λ t. turns-as (λ y s. start-non-zero (args .context) t (args .kind) (args .n) y s (match .keys4)) (word-turn (args .context) t (size .ensures) (word-turn
-    (args .context) t (zero-not-equal .ensures) (c .branch2 .ensures .0 t (args .alt .now))))
-
-same-length-6 : tie.Need-same-length-6
-same-length-6 c = refl
-
-returns-5 : tie.Need-returns-5
-returns-5 c =
-    let args = c .before .before .before .before .before .before .args in
-    let match = c .before .before .match in
-    λ t. turns-as (λ y s. start-or-i (args .context) t (args .kind) (args .n) y s (match .keys5)) (c .branch3 .ensures .0 t (args .alt .now))
-
-returns-6 : tie.Need-returns-6
-returns-6 c =
-    let args = c .before .before .before .before .args in
-    let pre = c .before .before .before .before .pre in
-    λ t. turns-as (λ y s. start-other (args .context) t (args .kind) (args .n) y s (c .match .rest .0 .0 .0 .0 .1) (c .match .rest .0 .0 .0 .1)
-    (c .match .rest .0 .0 .1) (c .match .rest .0 .1) (c .match .rest .1)) (stays-at (args .alt .now) 0 (pre .0))
+    let args = c .before .before .before .before .before .before .before .args in
+    let start-on-main = c .before .before .start-on-main in
+    let pre = c .before .before .before .before .before .before .before .pre in
+    let w = args .work .now in
+    let p = start-on-main .last .1 .1 .1 .1 .0 in
+    let same : length p ≡ length (mainIn w) = start-on-main .ensures (tables [] [] [] []) [] .same in
+    (λ t. turns-back w (pre .1) p same (start-on-main .ensures t (altIn w)), main-keeps w (pre .1) p same)
 
 pub start-spec : {M : Type 1} → statement M
 start-spec =
     tie.close
     (tie.spec
     to-alt-requires
-    swap-requires
-    dup-requires
-    branch-requires
-    size-requires
-    zero-not-equal-requires
-    branch-requires-2
-    branch-requires-3
     same-length
-    same-length-2
     returns
-    same-length-3
-    returns-2
-    same-length-4
-    returns-3
-    same-length-5
-    returns-4
-    same-length-6
-    returns-5
-    returns-6)
+    sub-start-on-main
+    part-start-on-main-start
+    part-start-on-main-end
+    start-on-main-requires
+    same-length-2
+    returns-2)

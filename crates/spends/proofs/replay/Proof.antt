@@ -7,7 +7,7 @@ slice-aggregate-replay-in : tie.Need-slice-aggregate-replay-in
 slice-aggregate-replay-in c = zeros-length 2581088
 
 slice-aggregate-replay-in-2 : tie.Need-slice-aggregate-replay-in-2
-slice-aggregate-replay-in-2 c = zeros-length 8192
+slice-aggregate-replay-in-2 c = zeros-length 20480
 
 replay-in-requires : tie.Need-replay-in-requires
 replay-in-requires c κs = tt
