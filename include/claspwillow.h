@@ -49,6 +49,8 @@ enum {
 /* The stack in bytes that covers each entry's worst known input, on every machine where bench/machines has measured it; no proof speaks of the stack. */
 enum {
     CLASPWILLOW_COMPILE_STACK = 655360,
+    CLASPWILLOW_CHOOSE_STACK = 1245184,
+    CLASPWILLOW_WRITE_STACK = 16384,
     CLASPWILLOW_CHECK_STACK = 4096,
     CLASPWILLOW_SCRIPT_STACK = 131072,
     CLASPWILLOW_DIFFER_STACK = 131072,
@@ -70,6 +72,24 @@ uint32_t claspwillow_compile(uint32_t context, const uint8_t *policy, uint64_t p
 
 /* The one length of `work`, in words, that claspwillow_compile takes. */
 uint64_t claspwillow_compile_work(void);
+
+/* The first half of claspwillow_compile: searches, and leaves the chosen tree in `work`. Gives how many bytes it has in *bytes, and the other three as
+ * claspwillow_compile does; CLASPWILLOW_OUTPUT_TOO_SMALL is given for more than 4,096 records alone. On a refusal all four are 0.
+ * `work` is lent: claspwillow_choose_work() words, of any content. Afterwards it holds the tree and nothing else: how many bytes it has in word 0, then
+ * the bytes, eight to a word, the least significant first, then zeros; on a refusal it is all zero. */
+uint32_t claspwillow_choose(uint32_t context, const uint8_t *policy, uint64_t policy_len, uint64_t *work, uint64_t work_len, uint64_t *bytes,
+                            uint64_t *cost, uint32_t *never, uint64_t *nodes);
+
+/* The one length of `work`, in words, that claspwillow_choose takes. */
+uint64_t claspwillow_choose_work(void);
+
+/* The second half: writes the tree that `work` holds, whoever filled it, to the front of `out`, and gives how many bytes it is in *bytes. Memory that
+ * holds no tree is CLASPWILLOW_BAD_WORK. On a refusal *bytes is 0 and `out` is as it was.
+ * `work` is lent: claspwillow_write_work() words; they are all zero afterwards, whatever the call gives. */
+uint32_t claspwillow_write(uint8_t *out, uint64_t out_len, uint64_t *work, uint64_t work_len, uint64_t *bytes);
+
+/* The one length of `work`, in words, that claspwillow_write takes. */
+uint64_t claspwillow_write_work(void);
 
 /* Checks a fragment tree and gives its root's packed type in *ty (0 on a refusal).
  * `work` is lent: claspwillow_check_work() words, of any content; they are all zero afterwards, whatever the call gives. */

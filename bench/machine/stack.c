@@ -146,6 +146,17 @@ static void compile(void) {
     result = claspwillow_compile(context, input, length, out, ROOM, work, claspwillow_compile_work(), &bytes, &cost, &never, &nodes);
 }
 
+static void choose(void) {
+    _Alignas(8) uint64_t bytes, cost, nodes;
+    uint32_t never;
+    result = claspwillow_choose(context, input, length, work, claspwillow_choose_work(), &bytes, &cost, &never, &nodes);
+}
+
+static void write_chosen(void) {
+    _Alignas(8) uint64_t bytes;
+    result = claspwillow_write(out, ROOM, work, claspwillow_write_work(), &bytes);
+}
+
 static void to_new(void) {
     _Alignas(8) uint64_t bytes;
     result = claspwillow_to_new(input, length, out, ROOM, &bytes);
@@ -241,17 +252,28 @@ static __attribute__((noinline)) uint32_t touched(void (*entry)(void)) {
 static uint32_t most;
 static int failed;
 
-/* `expected` is the number that the call must give, or ANY. */
+/* Of a call that touched so much; `expected` is the number that it must have given, or ANY. */
+static void take(uint32_t depth, uint32_t expected) {
+    most = depth > most ? depth : most;
+    if (expected != ANY && result != expected) {
+        say("an input gives number ");
+        say_number(result);
+        say("\n");
+        failed = 1;
+    }
+}
+
 static void measure(void (*entry)(void), uint32_t expected) {
     for (context = 0; context < 2; context++) {
-        const uint32_t depth = touched(entry);
-        most = depth > most ? depth : most;
-        if (expected != ANY && result != expected) {
-            say("an input gives number ");
-            say_number(result);
-            say("\n");
-            failed = 1;
-        }
+        take(touched(entry), expected);
+    }
+}
+
+/* The writing takes what a choice left. */
+static void measure_writing(void) {
+    for (context = 0; context < 2; context++) {
+        choose();
+        take(touched(write_chosen), CLASPWILLOW_DONE);
     }
 }
 
@@ -300,6 +322,18 @@ int machine_run(void) {
         measure(compile, CLASPWILLOW_DONE);
     }
     report("compile", CLASPWILLOW_COMPILE_STACK);
+    ors();
+    measure(choose, CLASPWILLOW_CACHE_FULL);
+    for (int first = 0; first < 2; first++) {
+        thresholds(first);
+        measure(choose, CLASPWILLOW_DONE);
+    }
+    report("choose", CLASPWILLOW_CHOOSE_STACK);
+    for (int first = 0; first < 2; first++) {
+        thresholds(first);
+        measure_writing();
+    }
+    report("write", CLASPWILLOW_WRITE_STACK);
     for (uint32_t i = 0; i < sizeof movers / sizeof *movers; i++) {
         ors();
         measure(movers[i].call, CLASPWILLOW_DONE);

@@ -1,17 +1,16 @@
-//! `bench compile` and `bench replay`: policies through the Rust, or its stored answers, and through the port.
+//! `bench compile` and `bench replay`: policies through the Rust, or its stored answers, and through the port: `claspwillow_compile`, and the choice
+//! and the writing apart, with whatever memory stands between them.
 
 use std::collections::BTreeSet;
 
 use crate::answers::STORED;
+use crate::chosen::{self, WORK};
 use crate::oracle::{self, Answer};
 use crate::policies::{damaged_any, thresholds, Maker};
 use crate::port::{self, Results};
 use crate::random::Random;
-use crate::records::{from_hex, to_hex};
-use crate::room;
-
-/// The words of work memory that docs/ENTRIES.md states.
-const WORK: usize = 612_360;
+use crate::records::{from_hex, in_new_kinds, to_hex};
+use crate::{room, trees};
 
 /// Bytes and words behind what is lent, which no call may touch.
 const FENCE: usize = 16;
@@ -30,33 +29,156 @@ struct Lent {
     out: Vec<u8>,
 }
 
+/// What compile and the choice are to give besides the number.
+fn results_of(wanted: &Answer) -> Results {
+    Results { bytes: wanted.output.len() as u64, cost: wanted.cost, never: u32::from(wanted.never), nodes: wanted.nodes as u64 }
+}
+
+/// Results that hold dirt.
+fn dirty(dirt: u64) -> Results {
+    Results { bytes: dirt, cost: dirt, never: dirt as u32, nodes: dirt }
+}
+
+impl Lent {
+    fn work(&mut self, words: usize, content: u64) {
+        self.work.clear();
+        self.work.resize(words, content);
+        self.work.resize(words + FENCE, FENCE_WORD);
+    }
+
+    fn out(&mut self, room: usize, dirt: u8) {
+        self.out.clear();
+        self.out.resize(room, dirt);
+        self.out.resize(room + FENCE, FENCE_BYTE);
+    }
+
+    /// What is wrong with the memory after a call that wrote so many bytes and leaves work memory zero.
+    fn wrong(&self, dirt: u8, bytes: usize, room: usize, words: usize) -> Option<&'static str> {
+        if self.out[bytes..room].iter().any(|&byte| byte != dirt) {
+            Some("output past the bytes written was changed")
+        } else if self.work[..words].iter().any(|&word| word != 0) {
+            Some("work memory is not all zero")
+        } else if self.work[words..].iter().any(|&word| word != FENCE_WORD) || self.out[room..].iter().any(|&byte| byte != FENCE_BYTE) {
+            Some("memory behind what was lent was written")
+        } else {
+            None
+        }
+    }
+}
+
 /// One call with so much room and work memory; what differs is said.
 fn call(lent: &mut Lent, dirt: u64, context: u32, policy: &[u8], room: usize, words: usize, wanted: &Answer) -> Result<(), String> {
-    lent.work.clear();
-    lent.work.resize(words, dirt);
-    lent.work.resize(words + FENCE, FENCE_WORD);
-    lent.out.clear();
-    lent.out.resize(room, dirt as u8);
-    lent.out.resize(room + FENCE, FENCE_BYTE);
-    let mut results = Results { bytes: dirt, cost: dirt, never: dirt as u32, nodes: dirt };
+    lent.work(words, dirt);
+    lent.out(room, dirt as u8);
+    let mut results = dirty(dirt);
     let number = port::compile(context, policy, &mut lent.out[..room], &mut lent.work[..words], &mut results);
     let case = || format!("context {context}, room {room}, work {words}, policy {}", to_hex(policy));
     let bytes = wanted.output.len();
-    let right = Results { bytes: bytes as u64, cost: wanted.cost, never: u32::from(wanted.never), nodes: wanted.nodes as u64 };
+    let right = results_of(wanted);
     if number != wanted.number || results != right {
         return Err(format!("{}: the Rust gives {}, {}, the port {number}, {}", case(), wanted.number, shown(&right), shown(&results)));
     }
     if lent.out[..bytes] != wanted.output[..] {
         return Err(format!("{}: the Rust writes {}, the port {}", case(), to_hex(&wanted.output), to_hex(&lent.out[..bytes])));
     }
-    if lent.out[bytes..room].iter().any(|&byte| byte != dirt as u8) {
-        return Err(format!("{}: output past the bytes written was changed", case()));
+    lent.wrong(dirt as u8, bytes, room, words).map_or(Ok(()), |wrong| Err(format!("{}: {wrong}", case())))
+}
+
+/// A choice with work memory of so many words; where it is done the memory holds the tree, and else it is zero.
+fn choose(lent: &mut Lent, dirt: u64, context: u32, policy: &[u8], words: usize, wanted: &Answer) -> Result<(), String> {
+    lent.work(words, dirt);
+    lent.out(0, 0);
+    let mut results = dirty(dirt);
+    let number = port::choose(context, policy, &mut lent.work[..words], &mut results);
+    let case = || format!("choice, context {context}, work {words}, policy {}", to_hex(policy));
+    let right = results_of(wanted);
+    if number != wanted.number || results != right {
+        return Err(format!("{}: the Rust gives {}, {}, the port {number}, {}", case(), wanted.number, shown(&right), shown(&results)));
     }
-    if lent.work[..words].iter().any(|&word| word != 0) {
-        return Err(format!("{}: work memory is not all zero", case()));
+    let held = if number == 0 { chosen::words(&wanted.output) } else { vec![] };
+    for (at, word) in &held {
+        if lent.work[*at] != *word {
+            return Err(format!("{}: word {at} is {:016X}, not {word:016X}", case(), lent.work[*at]));
+        }
+        lent.work[*at] = 0;
     }
-    if lent.work[words..].iter().any(|&word| word != FENCE_WORD) || lent.out[room..].iter().any(|&byte| byte != FENCE_BYTE) {
-        return Err(format!("{}: memory behind what was lent was written", case()));
+    let wrong = lent.wrong(0, 0, 0, words);
+    held.iter().for_each(|(at, word)| lent.work[*at] = *word);
+    wrong.map_or(Ok(()), |wrong| Err(format!("{}: {wrong}, but for the tree", case())))
+}
+
+/// A writing of what the memory of so many words holds, with so much room, by the bench's own reading of it. Gives the number.
+fn write(lent: &mut Lent, dirt: u8, room: usize, words: usize) -> Result<u32, String> {
+    let (wanted, bytes) = match chosen::held(&lent.work[..words]) {
+        None => (2, vec![]),
+        Some(bytes) if bytes.len() > room => (13, vec![]),
+        Some(bytes) => (0, bytes),
+    };
+    let front = lent.work[..words.min(100)].to_vec();
+    lent.out(room, dirt);
+    let mut count = u64::from(dirt);
+    let number = port::write(&mut lent.out[..room], &mut lent.work[..words], &mut count);
+    let case = || format!("writing, room {room}, work {words}, which begins with {front:X?}");
+    if (number, count) != (wanted, bytes.len() as u64) || !lent.out.starts_with(&bytes) {
+        return Err(format!("{}: wanted {wanted} and {}, the port gives {number} and {count} bytes", case(), to_hex(&bytes)));
+    }
+    lent.wrong(dirt, bytes.len(), room, words).map_or(Ok(wanted), |wrong| Err(format!("{}: {wrong}", case())))
+}
+
+/// Puts bytes into a memory that is all zero, as a choice leaves them.
+fn put(lent: &mut Lent, bytes: &[u8]) {
+    for (at, word) in chosen::words(bytes) {
+        lent.work[at] = word;
+    }
+}
+
+/// How many writings of each sort gave which number: of what a choice left, of that with a bit, a byte or a word spoiled, and of a random tree.
+#[derive(Default)]
+struct Writings([[u64; 3]; 5]);
+
+impl Writings {
+    fn count(&mut self, sort: usize, number: u32) {
+        self.0[sort][[0, 2, 13].iter().position(|&n| n == number).unwrap_or(0)] += 1;
+    }
+
+    /// What was given; whether each sort of spoiling was both found out and passed over.
+    fn end(&self) -> bool {
+        for (sort, [done, refused, small]) in self.0.iter().enumerate() {
+            let name = ["a choice", "one with a bit spoiled", "one with a byte spoiled", "one with a word spoiled", "a random tree"][sort];
+            println!("writings of {name}: done {done}, 2: {refused}, 13: {small}");
+        }
+        let seen = self.0[1..].iter().all(|[done, refused, _]| *done > 0 && *refused > 0);
+        if !seen {
+            println!("some sort of memory was always refused, or never");
+        }
+        seen
+    }
+}
+
+/// A case in two calls; the memory between them is spoiled, or another tree is put there.
+fn in_two_calls(lent: &mut Lent, random: &mut Random, writings: &mut Writings, context: u32, policy: &[u8], wanted: &Answer) -> Result<(), String> {
+    choose(lent, random.next(), context, policy, WORK, wanted)?;
+    let length = wanted.output.len();
+    if wanted.number == 0 {
+        let room = if random.once_in(4) { length - 1 } else { length + random.below(64) };
+        writings.count(0, write(lent, random.next() as u8, room, WORK)?);
+        for what in 0..3 {
+            put(lent, &wanted.output);
+            chosen::spoil(random, &mut lent.work[..WORK], length, what);
+            writings.count(1 + what, write(lent, random.next() as u8, length + 64, WORK)?);
+        }
+    }
+    let flavour = random.below(3);
+    let tree = trees::case(random, context % 2, flavour, 40);
+    // What is not damaged is of the form, in the kinds that are written or in both.
+    let tree = if flavour < 2 && !random.once_in(4) { in_new_kinds(&tree) } else { tree };
+    put(lent, &tree);
+    writings.count(4, write(lent, random.next() as u8, tree.len(), WORK)?);
+    if random.once_in(8) {
+        let words = *random.pick(&[0, 1, WORK - 1, WORK + 1]);
+        choose(lent, random.next(), context, policy, words, &Answer::refused(if context > 1 { 1 } else { 2 }))?;
+        lent.work(words, random.next());
+        write(lent, random.next() as u8, length, words)?;
     }
     Ok(())
 }
@@ -114,11 +236,11 @@ impl Tally {
 }
 
 fn work_is_right() -> bool {
-    let asked = port::compile_work();
-    if asked != WORK {
-        println!("the port asks for {asked} words of work memory, not {WORK}");
+    let asked = [port::compile_work(), port::choose_work(), port::write_work()];
+    if asked != [WORK; 3] {
+        println!("the port asks for {asked:?} words of work memory, not {WORK}");
     }
-    asked == WORK
+    asked == [WORK; 3]
 }
 
 /// A line of the stored list.
@@ -159,6 +281,7 @@ pub fn run(seed: u64, count: u64, records: usize) -> bool {
     let mut lent = Lent::default();
     let mut tally = Tally::new();
     let (mut infinite, mut met) = (0, BTreeSet::new());
+    let mut writings = Writings::default();
     for _ in 0..count {
         let (context, mut policy) = Maker::new(&mut random).any_case(records);
         met.extend(thresholds(&policy));
@@ -168,7 +291,8 @@ pub fn run(seed: u64, count: u64, records: usize) -> bool {
         match oracle::answer(context, &policy) {
             Ok((answer, counts)) => {
                 infinite += u64::from(counts.infinite);
-                let outcome = differs(&mut lent, &mut random, context, &policy, &answer);
+                let outcome = differs(&mut lent, &mut random, context, &policy, &answer)
+                    .and_then(|()| in_two_calls(&mut lent, &mut random, &mut writings, context, &policy, &answer));
                 tally.count(answer.number, outcome);
             }
             Err(message) => {
@@ -178,5 +302,5 @@ pub fn run(seed: u64, count: u64, records: usize) -> bool {
         }
     }
     println!("{infinite} of them compared an infinite cost; of the 136 pairs of k and n from 1 to 16 their thresholds have {}", met.len());
-    tally.end("random policies", &format!(", {}", room::tall_searches()))
+    writings.end() & tally.end("random policies", &format!(", {}", room::tall_searches()))
 }

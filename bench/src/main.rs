@@ -49,6 +49,8 @@ mod answers;
 #[cfg(port)]
 mod check;
 #[cfg(port)]
+mod chosen;
+#[cfg(port)]
 mod compile;
 mod decode;
 #[cfg(port)]
@@ -98,7 +100,7 @@ const USAGE: &str = "usage:
   bench figures                        compares the Rust's costs with document 01's figures
   bench decode SEED COUNT MAXRECORDS   writes small, stored and COUNT random trees as scripts and has the Rust's decoder read them back
   bench check SEED COUNT MAXRECORDS    runs COUNT random trees of each flavour and context through the Rust's type rules and the port
-  bench compile SEED COUNT MAXRECORDS  runs COUNT random policies, some damaged, through the Rust and the port
+  bench compile SEED COUNT MAXRECORDS  runs COUNT random policies, some damaged, through the Rust and the port, in one call and in two
   bench replay                         runs the stored list through the port
   bench movers SEED COUNT MAXRECORDS   runs COUNT random policies, some damaged, through a mover of its own and the port, both ways
   bench script SEED COUNT MAXRECORDS   runs COUNT random trees of each flavour and context, and tables, through the Rust's decoder and the port

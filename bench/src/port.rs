@@ -21,6 +21,20 @@ extern "C" {
         nodes: *mut u64,
     ) -> u32;
     fn claspwillow_compile_work() -> u64;
+    fn claspwillow_choose(
+        context: u32,
+        policy: *const u8,
+        policy_len: u64,
+        work: *mut u64,
+        work_len: u64,
+        bytes: *mut u64,
+        cost: *mut u64,
+        never: *mut u32,
+        nodes: *mut u64,
+    ) -> u32;
+    fn claspwillow_choose_work() -> u64;
+    fn claspwillow_write(out: *mut u8, out_len: u64, work: *mut u64, work_len: u64, bytes: *mut u64) -> u32;
+    fn claspwillow_write_work() -> u64;
     fn claspwillow_script(
         context: u32,
         tree: *const u8,
@@ -170,6 +184,31 @@ pub fn to_new(policy: &[u8], out: &mut [u8], bytes: &mut u64) -> u32 {
 pub fn to_old(policy: &[u8], out: &mut [u8], bytes: &mut u64) -> u32 {
     // SAFETY: each slice is passed as its own pointer and length, and the result as a pointer to one number.
     unsafe { claspwillow_to_old(policy.as_ptr(), policy.len() as u64, out.as_mut_ptr(), out.len() as u64, bytes) }
+}
+
+/// The words of work memory that choose asks for.
+pub fn choose_work() -> usize {
+    // SAFETY: the function takes nothing.
+    unsafe { claspwillow_choose_work() as usize }
+}
+
+/// The number; the results as the call left them.
+pub fn choose(context: u32, policy: &[u8], work: &mut [u64], results: &mut Results) -> u32 {
+    let Results { bytes, cost, never, nodes } = results;
+    // SAFETY: each slice is passed as its own pointer and length, and each result as a pointer to one number.
+    unsafe { claspwillow_choose(context, policy.as_ptr(), policy.len() as u64, work.as_mut_ptr(), work.len() as u64, bytes, cost, never, nodes) }
+}
+
+/// The words of work memory that write asks for.
+pub fn write_work() -> usize {
+    // SAFETY: the function takes nothing.
+    unsafe { claspwillow_write_work() as usize }
+}
+
+/// The number, and the count of bytes as the call left it.
+pub fn write(out: &mut [u8], work: &mut [u64], bytes: &mut u64) -> u32 {
+    // SAFETY: each slice is passed as its own pointer and length, and the result as a pointer to one number.
+    unsafe { claspwillow_write(out.as_mut_ptr(), out.len() as u64, work.as_mut_ptr(), work.len() as u64, bytes) }
 }
 
 /// The words of work memory that script asks for.

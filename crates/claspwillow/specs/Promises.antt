@@ -1,8 +1,10 @@
 -- What each public entry promises: document 01, "Numbers the console shows" and "Promises that useless programs break".
 use Prim.Native.Nat.{ℕ}
+use mathlib.Core.Bool.{cond}
 use mathlib.Core.List.{List, _++_}
+use mathlib.Core.Option.{Option, none, some}
 use mathlib.Core.Path.{_≡_}
-use lib.Dec.{eqb}
+use lib.Dec.{eqb, leb}
 use lib.ListN.{length, drop}
 use Rattle.words.specs.Memory.{zeroed}
 use Rattle.types.specs.declared.«Type».{«Type»}
@@ -12,7 +14,10 @@ use Rattle.trees.specs.Reading.{Answer, refused, done}
 use Rattle.trees.specs.TreeCheck.{checkOf}
 use Rattle.trees.specs.Checked.{typeOnly}
 use Rattle.memory.specs.Layout.{workWords}
+use Rattle.definition.specs.Refusals.{BadWork, OutputTooSmall}
 use Rattle.definition.specs.Compile.{Outcome, compiled, refusedWith, compile}
+use Rattle.chosen.specs.Form.{mostBytes, holding}
+use Rattle.chosen.specs.Chosen.{chosenOf}
 
 -- ---- the tree check
 
@@ -92,3 +97,70 @@ CompileDetermined =
     → CompilePromise context policy out work number left bytes cost never nodes after
     → CompilePromise context policy out work number′ left′ bytes′ cost′ never′ nodes′ after′
     → (number ≡ number′) × (left ≡ left′) × (bytes ≡ bytes′) × (cost ≡ cost′) × (never ≡ never′) × (nodes ≡ nodes′) × (after ≡ after′)
+
+-- ---- the choice (document 02, R-7)
+
+-- what the choice gives: what compile does where there is room for every tree of at most 4,096 records
+abbrev pub choice : (context : ℕ) → (policy work : List ℕ) → Outcome
+choice context policy work = compile context (eqb (length work) workWords) policy mostBytes
+
+-- work memory after it: the bytes of the tree in their form, and zeros on a refusal
+abbrev pub memoryAfter : Outcome → List ℕ → List ℕ
+memoryAfter (compiled bytes cost nodes) work = holding bytes
+memoryAfter (refusedWith n) work = zeroed work
+
+-- The choice, given a context, a policy and work memory, leaves a number, four results and work memory.
+pub record ChoosePromise (context : ℕ) (policy work : List ℕ) (number bytes cost never nodes : ℕ) (after : List ℕ) : Type 0 where
+  pub gives : number ≡ numberOfOutcome (choice context policy work)
+  pub counts : bytes ≡ bytesWritten (choice context policy work)
+  pub costs : cost ≡ costGiven (choice context policy work)
+  pub tells : never ≡ neverGiven (choice context policy work)
+  pub uses : nodes ≡ nodesUsed (choice context policy work)
+  pub leaves : after ≡ memoryAfter (choice context policy work) work
+
+-- Any two outcomes that the promise allows are equal.
+abbrev pub ChooseDetermined : Type 0
+ChooseDetermined =
+    (context : ℕ) (policy work : List ℕ)
+    (number number′ bytes bytes′ cost cost′ never never′ nodes nodes′ : ℕ) (after after′ : List ℕ)
+    → ChoosePromise context policy work number bytes cost never nodes after
+    → ChoosePromise context policy work number′ bytes′ cost′ never′ nodes′ after′
+    → (number ≡ number′) × (bytes ≡ bytes′) × (cost ≡ cost′) × (never ≡ never′) × (nodes ≡ nodes′) × (after ≡ after′)
+
+-- ---- the writing (document 02, R-7)
+
+-- the bytes that are written, or the number of a refusal
+pub data Writing : Type 0 where
+  wrote : (bytes : List ℕ) → Writing
+  unwritten : ℕ → Writing
+
+-- what writing gives for the bytes that a memory holds, if any, and so many bytes of room
+abbrev pub writing : Option (List ℕ) → (room : ℕ) → Writing
+writing none room = unwritten BadWork
+writing (some bytes) room = cond (leb (length bytes) room) (wrote bytes) (unwritten OutputTooSmall)
+
+abbrev pub numberOfWriting : Writing → ℕ
+numberOfWriting (wrote bytes) = 0
+numberOfWriting (unwritten n) = n
+
+abbrev pub outputOfWriting : Writing → List ℕ → List ℕ
+outputOfWriting (wrote bytes) out = bytes ++ drop (length bytes) out
+outputOfWriting (unwritten n) out = out
+
+abbrev pub bytesOfWriting : Writing → ℕ
+bytesOfWriting (wrote bytes) = length bytes
+bytesOfWriting (unwritten n) = 0
+
+-- The writing, given an output and work memory, whoever filled it, leaves a number, an output, how many bytes were written, and work memory.
+pub record WritePromise (out work : List ℕ) (number : ℕ) (left : List ℕ) (bytes : ℕ) (after : List ℕ) : Type 0 where
+  pub gives : number ≡ numberOfWriting (writing (chosenOf work) (length out))
+  pub writes : left ≡ outputOfWriting (writing (chosenOf work) (length out)) out
+  pub counts : bytes ≡ bytesOfWriting (writing (chosenOf work) (length out))
+  pub clears : after ≡ zeroed work
+
+-- Any two outcomes that the promise allows are equal.
+abbrev pub WriteDetermined : Type 0
+WriteDetermined =
+    (out work : List ℕ) (number number′ : ℕ) (left left′ : List ℕ) (bytes bytes′ : ℕ) (after after′ : List ℕ)
+    → WritePromise out work number left bytes after → WritePromise out work number′ left′ bytes′ after′
+    → (number ≡ number′) × (left ≡ left′) × (bytes ≡ bytes′) × (after ≡ after′)

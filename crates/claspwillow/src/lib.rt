@@ -9,8 +9,13 @@ ghost use Rattle.trees.specs.Reading.{maxRecords};
 ghost use Rattle.trees.specs.TreeCheck.{contextOf};
 ghost use Rattle.trees.specs.Checked.{answerOf};
 ghost use Rattle.compile.specs.Answers.{Compiles};
-ghost use Rattle.claspwillow.specs.Results.{givenIn, numberIn, bytesIn, costIn, neverIn, nodesIn};
-ghost use Rattle.claspwillow.specs.Promises.{numberOf, typeNumber, CheckPromise, given, CompilePromise};
+ghost use mathlib.Core.Bool.{true};
+ghost use Rattle.chosen.specs.Form.{mostBytes};
+ghost use Rattle.chosen.specs.Chosen.{allZero, chosenOf};
+ghost use Rattle.claspwillow.specs.Results.{givenIn, numberIn, bytesIn, costIn, neverIn, nodesIn, Chooses, Puts, numberPut, bytesPut};
+ghost use Rattle.claspwillow.specs.Promises.{numberOf, typeNumber, CheckPromise, given, CompilePromise, choice, ChoosePromise, writing, WritePromise};
+ghost use lib.ListN.{length};
+use chosen::Held;
 use compile::Answer;
 use contexts::Context;
 use trees::Checked;
@@ -22,6 +27,8 @@ const WORK_WORDS: usize = 612_360;
 const BAD_CONTEXT: u8 = 1;
 
 const BAD_WORK: u8 = 2;
+
+const OUTPUT_TOO_SMALL: u8 = 13;
 
 // What a refusal gives in place of the bytes written, the cost and the nodes used.
 const NOT_GIVEN: u64 = 0;
@@ -187,6 +194,123 @@ pub extern "C" fn claspwillow_compile(
 // The one length of work memory that compile takes, in words.
 #[no_mangle]
 pub extern "C" fn claspwillow_compile_work() -> usize
+    ensures { λ n. ⌜ n ≡ workWords ⌝ }
+{
+    WORK_WORDS
+}
+
+// How many bytes were written, or the number of a refusal.
+enum Put {
+    Bytes(usize),
+    Refused(u8),
+}
+
+// Chooses the tree of a policy and leaves its bytes in work memory. They go through an output of zeros that has room for every tree that may be chosen.
+fn choose_through(context: u32, policy: &[u8], out: &mut [u8], work: &mut [u64]) -> Answer
+    requires { ⌜ (length (now out) ≡ mostBytes) × (allZero (now out) ≡ true) ⌝ }
+    ensures { λ r. ⌜ Chooses (choice context (now (policy .entry)) (now (work .entry))) (now (work .entry)) (now (work .exit)) r ⌝ }
+{
+    match compile_numbered(context, policy, out, work) {
+        Answer::Compiled(bytes, cost, never, nodes) => {
+            chosen::hold(out, bytes, work);
+            Answer::Compiled(bytes, cost, never, nodes)
+        }
+        Answer::Refused(n) => {
+            words::clear(work);
+            Answer::Refused(n)
+        }
+    }
+}
+
+// Chooses the tree of a policy and leaves its bytes in work memory.
+fn choose(context: u32, policy: &[u8], work: &mut [u64]) -> Answer
+    ensures { λ r. ⌜ Chooses (choice context (now (policy .entry)) (now (work .entry))) (now (work .entry)) (now (work .exit)) r ⌝ }
+{
+    let mut out = [0u8; 557056];
+    choose_through(context, policy, &mut out, work)
+}
+
+// Chooses the tree of a policy: document 01's number, how many bytes the tree has, the bits of its cost, whether that is never (1, and then the bits are
+// 0) and the nodes used, all four 0 on a refusal. Work memory holds the tree afterwards, and is zero on a refusal.
+#[no_mangle]
+pub extern "C" fn claspwillow_choose(
+    context: u32,
+    policy: &[u8],
+    work: &mut [u64],
+    bytes: &mut u64,
+    cost: &mut u64,
+    never: &mut u32,
+    nodes: &mut u64,
+) -> u32
+    ensures { λ n. ⌜ ChoosePromise context (now (policy .entry)) (now (work .entry)) n (now (bytes .exit)) (now (cost .exit)) (now (never .exit)) (now (nodes .exit)) (now (work .exit)) ⌝ }
+{
+    let r = choose(context, policy, work);
+    *bytes = bytes_of(r);
+    *cost = cost_of(r);
+    *never = never_of(r);
+    *nodes = nodes_of(r);
+    number_of(r)
+}
+
+// The one length of work memory that the choice takes, in words.
+#[no_mangle]
+pub extern "C" fn claspwillow_choose_work() -> usize
+    ensures { λ n. ⌜ n ≡ workWords ⌝ }
+{
+    WORK_WORDS
+}
+
+// Writes the tree that a memory holds, where it fits.
+fn put_held(out: &mut [u8], work: &[u64]) -> Put
+    ensures { λ r. ⌜ Puts (writing (chosenOf (now (work .entry))) (length (now (out .entry)))) (now (out .entry)) (now (out .exit)) r ⌝ }
+{
+    match chosen::tree_in(work) {
+        Held::Nothing => Put::Refused(BAD_WORK),
+        Held::Bytes(n) => {
+            if out.len() < n {
+                return Put::Refused(OUTPUT_TOO_SMALL);
+            }
+            chosen::write(work, n, out);
+            Put::Bytes(n)
+        }
+    }
+}
+
+// How many bytes were written, 0 on a refusal.
+fn bytes_put(r: Put) -> u64
+    ensures { λ n. ⌜ n ≡ bytesPut r ⌝ }
+{
+    match r {
+        Put::Bytes(n) => n as u64,
+        Put::Refused(_) => NOT_GIVEN,
+    }
+}
+
+// Document 01's number of what writing came to.
+fn number_put(r: Put) -> u32
+    ensures { λ n. ⌜ n ≡ numberPut r ⌝ }
+{
+    match r {
+        Put::Bytes(_) => 0,
+        Put::Refused(n) => n as u32,
+    }
+}
+
+// Writes the tree that work memory holds, whoever filled it: document 01's number, the records of the tree in `out` and how many bytes they are, 0 on a
+// refusal. Work memory is zero afterwards.
+#[no_mangle]
+pub extern "C" fn claspwillow_write(out: &mut [u8], work: &mut [u64], bytes: &mut u64) -> u32
+    ensures { λ n. ⌜ WritePromise (now (out .entry)) (now (work .entry)) n (now (out .exit)) (now (bytes .exit)) (now (work .exit)) ⌝ }
+{
+    let r = put_held(out, work);
+    words::clear(work);
+    *bytes = bytes_put(r);
+    number_put(r)
+}
+
+// The one length of work memory that the writing takes, in words.
+#[no_mangle]
+pub extern "C" fn claspwillow_write_work() -> usize
     ensures { λ n. ⌜ n ≡ workWords ⌝ }
 {
     WORK_WORDS

@@ -6,7 +6,7 @@ use mathlib.Core.Path.{_≡_}
 use native.Mathlib.Omega.{arith}
 use borrow.Author.Tests.{le-leb, lt-leb, lt-ltb, le-ltb}
 use Rattle.command_line.specs.declared.Command.{Command}
-use Rattle.command_line.specs.declared.Command.the-variants.{Compile, Check, Script, Words, Differ, Index, At, Accept, New, Old, Unknown}
+use Rattle.command_line.specs.declared.Command.the-variants.{Compile, Size, Check, Script, Words, Differ, Index, At, Accept, New, Old, Unknown}
 use Rattle.command_line.specs.declared.Count.the-variants.{TooFew, TooMany, Right}
 use Rattle.command_line.specs.Words.{NoneOfFirst, Names, NamesLater, lastWord, mostWords, countFor}
 
@@ -17,14 +17,15 @@ other same failed a =
     let z : _≡_ {A = ℕ} 0 1 = cc in
     omega arith
 
--- a word of none of the first five commands names what it names of the last four
+-- a word of none of the first five commands names what it names of the last five
 pub named-later : {word : List ℕ} (r : Command) → NoneOfFirst word → NamesLater word r → Names word r
 named-later Compile none named = absurd named
+named-later Size none named = absurd named
 named-later Check none named = absurd named
 named-later Script none named = absurd named
 named-later Words none named = named
 named-later Differ none named = absurd named
-named-later Index none named = absurd named
+named-later Index none named = named
 named-later At none named = named
 named-later Accept none named = named
 named-later New none named = named

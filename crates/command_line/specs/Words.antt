@@ -13,7 +13,7 @@ use Rattle.numerals.specs.declared.Number32.the-variants as Number32
 use Rattle.command_line.specs.declared.Asked.{Asked}
 use Rattle.command_line.specs.declared.Asked.the-variants as Asked
 use Rattle.command_line.specs.declared.Command.{Command}
-use Rattle.command_line.specs.declared.Command.the-variants.{Compile, Check, Script, Words, Differ, Index, At, Accept, New, Old, Unknown}
+use Rattle.command_line.specs.declared.Command.the-variants.{Compile, Size, Check, Script, Words, Differ, Index, At, Accept, New, Old, Unknown}
 use Rattle.command_line.specs.declared.Count.{Count}
 use Rattle.command_line.specs.declared.Count.the-variants.{TooFew, TooMany, Right}
 
@@ -22,17 +22,19 @@ abbrev pub bytes : String → List ℕ
 bytes empty = []
 bytes (c then s) = code c ∷ bytes s
 
--- no word of the first five commands, and of the last four
+-- no word of the first five commands, and of the last five
 abbrev pub NoneOfFirst : List ℕ → Type 0
 NoneOfFirst word =
-    (word ≡ bytes "compile" → ⊥) × (word ≡ bytes "check" → ⊥) × (word ≡ bytes "script" → ⊥) × (word ≡ bytes "differ" → ⊥) × (word ≡ bytes "index" → ⊥)
+    (word ≡ bytes "compile" → ⊥) × (word ≡ bytes "size" → ⊥) × (word ≡ bytes "check" → ⊥) × (word ≡ bytes "script" → ⊥) × (word ≡ bytes "differ" → ⊥)
 
 abbrev pub NoneOfLater : List ℕ → Type 0
-NoneOfLater word = (word ≡ bytes "at" → ⊥) × (word ≡ bytes "accept" → ⊥) × (word ≡ bytes "new" → ⊥) × (word ≡ bytes "old" → ⊥)
+NoneOfLater word =
+    (word ≡ bytes "index" → ⊥) × (word ≡ bytes "at" → ⊥) × (word ≡ bytes "accept" → ⊥) × (word ≡ bytes "new" → ⊥) × (word ≡ bytes "old" → ⊥)
 
 -- the command that a word names; any other word names none, and that a script is shown word by word is said by the word after it
 abbrev pub Names : List ℕ → Command → Type 0
 Names word Compile = word ≡ bytes "compile"
+Names word Size = word ≡ bytes "size"
 Names word Check = word ≡ bytes "check"
 Names word Script = word ≡ bytes "script"
 Names word Words = ⊥
@@ -44,14 +46,15 @@ Names word New = word ≡ bytes "new"
 Names word Old = word ≡ bytes "old"
 Names word Unknown = NoneOfFirst word × NoneOfLater word
 
--- the same of the last four alone
+-- the same of the last five alone
 abbrev pub NamesLater : List ℕ → Command → Type 0
 NamesLater word Compile = ⊥
+NamesLater word Size = ⊥
 NamesLater word Check = ⊥
 NamesLater word Script = ⊥
 NamesLater word Words = ⊥
 NamesLater word Differ = ⊥
-NamesLater word Index = ⊥
+NamesLater word Index = word ≡ bytes "index"
 NamesLater word At = word ≡ bytes "at"
 NamesLater word Accept = word ≡ bytes "accept"
 NamesLater word New = word ≡ bytes "new"
@@ -61,6 +64,7 @@ NamesLater word Unknown = NoneOfLater word
 -- the place of CONTEXT, 0 where a command takes none
 abbrev pub contextPlace : Command → ℕ
 contextPlace Compile = 2
+contextPlace Size = 2
 contextPlace Check = 2
 contextPlace Script = 2
 contextPlace Words = 3
@@ -75,6 +79,7 @@ contextPlace Unknown = 0
 -- the last word that a command needs, and the most that it takes: OUTPUT may be left out, but for a mover's
 abbrev pub lastWord : Command → ℕ
 lastWord Compile = 3
+lastWord Size = 3
 lastWord Check = 3
 lastWord Script = 7
 lastWord Words = 8
@@ -88,6 +93,7 @@ lastWord Unknown = 0
 
 abbrev pub mostWords : Command → ℕ
 mostWords Compile = 5
+mostWords Size = 4
 mostWords Check = 4
 mostWords Script = 9
 mostWords Words = 10
@@ -106,6 +112,7 @@ countFor command words = cond (leb words (lastWord command)) TooFew (cond (ltb (
 -- what a command asks in a context; nothing without either. A mover asks the same in any.
 abbrev pub askedIn : Command → (context : ℕ) → Asked
 askedIn Compile n = Asked.Compile n
+askedIn Size n = Asked.Size n
 askedIn Check n = Asked.Check n
 askedIn Script n = Asked.Script n
 askedIn Words n = Asked.Words n

@@ -44,6 +44,7 @@ pub const MOVED_OUTPUT_WORD: usize = 3;
 // What the program is asked to do: a command in a context, a mover's, or nothing, and the reason has been said.
 pub enum Asked {
     Compile(u32),
+    Size(u32),
     Check(u32),
     Script(u32),
     Words(u32),
@@ -59,6 +60,7 @@ pub enum Asked {
 // The command that the words name; `Words` is a script shown word by word.
 pub enum Command {
     Compile,
+    Size,
     Check,
     Script,
     Words,
@@ -120,6 +122,7 @@ fn usage(wrong: &[u8]) {
         STDERR_FILENO,
         b"\nusage: console compile CONTEXT POLICY [OUTPUT]\n",
     );
+    io::write_all(STDERR_FILENO, b"       console size CONTEXT POLICY\n");
     io::write_all(STDERR_FILENO, b"       console check CONTEXT TREE\n");
     io::write_all(
         STDERR_FILENO,
@@ -130,10 +133,13 @@ fn usage(wrong: &[u8]) {
     say_files();
 }
 
-// The command that a word names, of the last four.
+// The command that a word names, of the last five.
 fn later_command(word: &[u8]) -> Command
     ensures { λ r. ⌜ NamesLater (now (word .entry)) r ⌝ }
 {
+    if check::same(word, b"index") {
+        return Command::Index;
+    }
     if check::same(word, b"at") {
         return Command::At;
     }
@@ -156,6 +162,9 @@ fn command_of(word: &[u8]) -> Command
     if check::same(word, b"compile") {
         return Command::Compile;
     }
+    if check::same(word, b"size") {
+        return Command::Size;
+    }
     if check::same(word, b"check") {
         return Command::Check;
     }
@@ -164,9 +173,6 @@ fn command_of(word: &[u8]) -> Command
     }
     if check::same(word, b"differ") {
         return Command::Differ;
-    }
-    if check::same(word, b"index") {
-        return Command::Index;
     }
     later_command(word)
 }
@@ -177,6 +183,7 @@ fn context_place(command: Command) -> usize
 {
     match command {
         Command::Compile => 2,
+        Command::Size => 2,
         Command::Check => 2,
         Command::Script => 2,
         Command::Words => 3,
@@ -196,6 +203,7 @@ fn last_word(command: Command) -> usize
 {
     match command {
         Command::Compile => INPUT_WORD,
+        Command::Size => INPUT_WORD,
         Command::Check => INPUT_WORD,
         Command::Script => INPUT_WORD + HASHES20_AFTER,
         Command::Words => WORDS_INPUT_WORD + HASHES20_AFTER,
@@ -215,6 +223,7 @@ fn most_words(command: Command) -> usize
 {
     match command {
         Command::Compile => OUTPUT_WORD + 1,
+        Command::Size => INPUT_WORD + 1,
         Command::Check => INPUT_WORD + 1,
         Command::Script => INPUT_WORD + SCRIPT_AFTER + 1,
         Command::Words => WORDS_INPUT_WORD + SCRIPT_AFTER + 1,
@@ -248,6 +257,7 @@ fn asked_in(command: Command, context: Number32) -> Asked
     match context {
         Number32::Is(n) => match command {
             Command::Compile => Asked::Compile(n),
+            Command::Size => Asked::Size(n),
             Command::Check => Asked::Check(n),
             Command::Script => Asked::Script(n),
             Command::Words => Asked::Words(n),

@@ -1,4 +1,4 @@
-// The commands that compile a policy and that check a fragment tree.
+// The commands that compile a policy, that tell how large its tree is, and that check a fragment tree.
 ghost use Prim.Native.Nat.{_≤_};
 ghost use lib.ListN.{length};
 use command_line::INPUT_WORD;
@@ -10,7 +10,7 @@ use record_files::load_records;
 // The most bytes that a tree has.
 const TREE_ROOM: usize = 557_056;
 
-// The words of work memory that compile and the tree check take.
+// The words of work memory that compile and the choice take, and those of the tree check.
 const WORK_WORDS: usize = 612_360;
 
 const CHECK_WORDS: usize = 4_096;
@@ -52,6 +52,34 @@ pub fn compile(context: u32) {
         return;
     }
     show_and_save(bytes as usize, cost, never, nodes, &tree);
+}
+
+// Chooses the tree of the policy that the words name, as compile does, and shows the answer but for the tree. Nothing is written, and the work memory
+// that holds the tree goes out of use.
+pub fn size(context: u32) {
+    let mut policy = [0u8; ROOM];
+    let Loaded::Bytes(n) = load_records(INPUT_WORD, &mut policy) else {
+        return;
+    };
+    let mut work = [0u64; WORK_WORDS];
+    let mut bytes = 0;
+    let mut cost = 0;
+    let mut never = 0;
+    let mut nodes = 0;
+    let number = claspwillow::claspwillow_choose(
+        context,
+        &policy[..n],
+        &mut work,
+        &mut bytes,
+        &mut cost,
+        &mut never,
+        &mut nodes,
+    );
+    if number != 0 {
+        report::show_refusal(number);
+        return;
+    }
+    report::show_chosen(bytes, cost, never, nodes);
 }
 
 // Checks the tree that the words name and shows the answer.

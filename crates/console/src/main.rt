@@ -1,6 +1,7 @@
 // The program that people run; docs/CONSOLE.md tells its commands:
 //
 //     console compile CONTEXT POLICY [OUTPUT]    compiles a policy, shows the answer, writes the tree's records to the new file OUTPUT
+//     console size CONTEXT POLICY                shows how large the tree is that compiling gives, what it costs and the nodes used, and writes nothing
 //     console check CONTEXT TREE                 checks a fragment tree and shows its type
 //     console script [--words] CONTEXT TREE KEYS KEYHASHES HASHES32 HASHES20 [OUTPUT]
 //                                                shows the script of a fragment tree, word by word where that is asked, writes its bytes to OUTPUT
@@ -19,6 +20,7 @@ fn main() {
     let asked = command_line::what_is_asked();
     match asked {
         Asked::Compile(context) => compile_command::compile(context),
+        Asked::Size(context) => compile_command::size(context),
         Asked::Check(context) => compile_command::check_tree(context),
         Asked::Script(_) => {}
         Asked::Words(_) => {}

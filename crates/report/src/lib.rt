@@ -288,6 +288,12 @@ pub fn show_compiled(cost: u64, never: u32, nodes: u64, tree: &[u8]) {
     say_unless(show_tree(tree) & first & given);
 }
 
+// Shows the answer to a policy whose tree is chosen and not written: what compiling gives, but for the tree.
+pub fn show_chosen(bytes: u64, cost: u64, never: u32, nodes: u64) {
+    let first = show_number(0);
+    say_unless(show_given(bytes, cost, never, nodes) & first);
+}
+
 // Shows the answer to a tree that passes: its type, of which the packed number is given.
 pub fn show_checked(packed: u32) {
     let first = show_number(0);

@@ -180,6 +180,7 @@ fn place_of(asked: Asked) -> Place
     };
     match asked {
         Asked::Compile(_) => none,
+        Asked::Size(_) => none,
         Asked::Check(_) => none,
         Asked::Script(context) => Place {
             asked: true,

@@ -42,6 +42,9 @@ enum-told-11 c = search needs
 enum-told-12 : tie.Need-enum-told-12
 enum-told-12 c = search needs
 
+enum-told-13 : tie.Need-enum-told-13
+enum-told-13 c = search needs
+
 returns : tie.Need-returns
 returns c = simp (c .enum-told .given .1, c .before .before .before .context .given .1)
 
@@ -73,10 +76,13 @@ returns-10 : tie.Need-returns-10
 returns-10 c = simp (c .enum-told10 .given .1, c .before .before .before .context .given .1)
 
 returns-11 : tie.Need-returns-11
-returns-11 c = search needs
+returns-11 c = simp (c .enum-told11 .given .1, c .before .before .before .context .given .1)
 
 returns-12 : tie.Need-returns-12
 returns-12 c = search needs
+
+returns-13 : tie.Need-returns-13
+returns-13 c = search needs
 
 pub asked-in-spec : {M : Type 1} → statement M
 asked-in-spec =
@@ -95,6 +101,7 @@ asked-in-spec =
     enum-told-10
     enum-told-11
     enum-told-12
+    enum-told-13
     returns
     returns-2
     returns-3
@@ -106,4 +113,5 @@ asked-in-spec =
     returns-9
     returns-10
     returns-11
-    returns-12)
+    returns-12
+    returns-13)

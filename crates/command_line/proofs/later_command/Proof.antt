@@ -40,15 +40,26 @@ same-requires-4 c κs = tt
 returns-4 : tie.Need-returns-4
 returns-4 c = c .before .same4 .ensures .0 (c .if4 .taken)
 
+slice-aggregate-same-5 : tie.Need-slice-aggregate-same-5
+slice-aggregate-same-5 c = search needs
+
+same-requires-5 : tie.Need-same-requires-5
+same-requires-5 c κs = tt
+
 returns-5 : tie.Need-returns-5
-returns-5 c =
-    let third = c .before .before .before in
+returns-5 c = c .before .same5 .ensures .0 (c .if5 .taken)
+
+returns-6 : tie.Need-returns-6
+returns-6 c =
+    let fourth = c .before .before .before in
+    let third = fourth .before .before .before in
     let second = third .before .before .before in
     let first = second .before .before .before in (
       other (first .before .same .ensures .1) (first .if1 .left),
       other (second .before .same2 .ensures .1) (second .if2 .left),
       other (third .before .same3 .ensures .1) (third .if3 .left),
-      other (c .before .same4 .ensures .1) (c .if4 .left),
+      other (fourth .before .same4 .ensures .1) (fourth .if4 .left),
+      other (c .before .same5 .ensures .1) (c .if5 .left),
     )
 
 pub later-command-spec : {M : Type 1} → statement M
@@ -67,4 +78,7 @@ later-command-spec =
     slice-aggregate-same-4
     same-requires-4
     returns-4
-    returns-5)
+    slice-aggregate-same-5
+    same-requires-5
+    returns-5
+    returns-6)

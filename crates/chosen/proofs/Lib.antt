@@ -1,0 +1,9 @@
+pub mod Words
+pub mod Zeros
+pub mod Steps
+pub mod Records
+pub mod Written
+pub mod Reading
+pub mod Holding
+pub mod Filling
+pub mod Bounds
