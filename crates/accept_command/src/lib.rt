@@ -1,4 +1,6 @@
 // The command that tells whether a fragment tree from elsewhere stands for a policy.
+#![tactic(auto)]
+
 use command_line::{INPUT_WORD, PROPOSED_WORD};
 use counterexample::Told;
 use files::Loaded;

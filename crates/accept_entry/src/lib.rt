@@ -2,6 +2,8 @@
 //
 // The entry's promise stands in specs/Accept.antt, and proofs/Determined.antt shows that it determines the outcome. The inner contracts cite
 // specs/Verdicts.antt.
+#![tactic(auto)]
+
 ghost use Rattle.std.proofs.Math.Option.{some};
 ghost use Rattle.std.specs.Prelude.{◌≡◌, ◌<◌, length};
 ghost use Rattle.contexts.specs.declared.Context.{Context};

@@ -4,6 +4,8 @@
 // Its contracts cite `specs/Slots.antt` (the tables that work memory holds), `specs/Lookup.antt` (which of them is found) and
 // `specs/Answers.antt` (what storing one leaves). Crate `memory` says where they stand. The laws that crates above cite stand in
 // `proofs/Tables.antt`.
+#![tactic(auto)]
+
 ghost use Rattle.std.specs.Prelude.{◌≡◌, ◌&&◌, ◌<◌, ◌≤◌, length, take, get_or};
 ghost use Rattle.std.specs.Float.Ieee.{eq};
 ghost use Rattle.words.specs.Floats.{float_of_word};
@@ -29,14 +31,14 @@ const MAX_TABLES: usize = 2048;
 const MAX_ENTRIES: usize = 128;
 
 // What a search among the tables answers: the number of the newest under a key, or that there is none.
-#[derive(Drop)]
+#[derive(Clone, Copy)]
 pub enum Found {
     At(u16),
     Missing,
 }
 
 // What storing a table answers: its number, or that there is room for no more.
-#[derive(Drop)]
+#[derive(Clone, Copy)]
 pub enum Stored {
     At(u16),
     Full,

@@ -25,11 +25,11 @@ sig_type Tap = Schnorr
 abbrev pub leaf : ℕ → ℕ → «Type» → ExtData → Cost → Candidate
 leaf kind held t e c = candidate kind held no_child no_child t e c
 
-abbrev pub FALSE : Candidate
-FALSE = leaf False no_child type.FALSE ext.false_ext cost.FALSE
+abbrev pub false_candidate : Candidate
+false_candidate = leaf False no_child type.FALSE ext.false_ext cost.FALSE
 
-abbrev pub TRUE : Candidate
-TRUE = leaf True no_child type.TRUE ext.true_ext cost.TRUE
+abbrev pub true_candidate : Candidate
+true_candidate = leaf True no_child type.TRUE ext.true_ext cost.TRUE
 
 abbrev pub pk_k : Context → ℕ → Candidate
 pk_k c held = leaf PkK held type.pk_k (ext.pk_k c) (cost.pk_k (sig_type c))

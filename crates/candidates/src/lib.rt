@@ -2,10 +2,12 @@
 //
 // The names are those of policy/compiler.rs. The contracts cite specs/Leaves.antt (leaves), specs/Casts.antt (the ten casts),
 // specs/Pairs.antt (pairs and triples) and specs/Candidates.antt (what a candidate costs).
+#![tactic(auto)]
+
 ghost use Rattle.std.specs.Prelude.{◌≡◌, ◌≤◌};
 ghost use Rattle.figures.specs.Bounds.{Small};
 ghost use Rattle.candidates.specs.Candidates.{candidate, cost_at};
-ghost use Rattle.candidates.specs.Leaves.{sig_type, FALSE, TRUE, pk_k, pk_h, after, older};
+ghost use Rattle.candidates.specs.Leaves.{sig_type, false_candidate, true_candidate, pk_k, pk_h, after, older};
 ghost use Rattle.candidates.specs.Leaves.{sha256, hash256, ripemd160, hash160, multi, multi_a};
 ghost use Rattle.candidates.specs.Casts.{check, dupif, likely, unlikely, verify, nonzero, true', swap, alt, zeronotequal};
 ghost use Rattle.candidates.specs.Casts.{cast_by, cast_of};
@@ -79,7 +81,7 @@ const NO_CHILD: u16 = 0;
 
 // A fragment that the search may take: its kind, the nodes of its children (a leaf has there a number that the caller chose), its type,
 // its figures and its cost.
-#[derive(Drop)]
+#[derive(Clone, Copy)]
 pub struct Candidate {
     pub kind: u16,
     pub first: u16,
@@ -91,7 +93,7 @@ pub struct Candidate {
 }
 
 // What a cast answers: the new candidate, or that it is ill-typed, or that there is no cast of this number.
-#[derive(Drop)]
+#[derive(Clone, Copy)]
 pub enum CastResult {
     Cast(Candidate),
     IllTyped,
@@ -99,7 +101,7 @@ pub enum CastResult {
 }
 
 // What putting candidates together answers: passed over where they are ill-typed, missing where a needed dissatisfaction cost is.
-#[derive(Drop)]
+#[derive(Clone, Copy)]
 pub enum Made {
     Candidate(Candidate),
     PassedOver,
@@ -142,7 +144,7 @@ fn over(
 impl Candidate {
     // The candidate of False.
     pub fn of_false() -> Candidate
-        ensures { result ≡ FALSE }
+        ensures { result ≡ false_candidate }
     {
         let ty = Type::of_false();
         let ext = ExtData::FALSE();
@@ -152,7 +154,7 @@ impl Candidate {
 
     // The candidate of True.
     pub fn of_true() -> Candidate
-        ensures { result ≡ TRUE }
+        ensures { result ≡ true_candidate }
     {
         let ty = Type::of_true();
         let ext = ExtData::TRUE();

@@ -3,6 +3,8 @@
 //
 // The names are those of policy/compiler.rs: `best`, `best_t` and the Thresh of `best_compilations`. The contracts cite specs/Chosen.antt,
 // specs/Arranged.antt, specs/Keys.antt and specs/Threshes.antt, by the definition on what nodes stand for.
+#![tactic(auto)]
+
 ghost use Rattle.std.specs.Prelude.{◌≡◌, ◌&&◌, ◌<◌, ◌≤◌, length, take};
 ghost use Rattle.policies.specs.Forms.{kind_of, children_of};
 ghost use Rattle.policies.specs.Array.{policy_at, Good};
@@ -25,7 +27,7 @@ use figures::ExtData;
 use types::{Type, TypeResult};
 
 // What an entry is wanted for: as the E or as the W of a Thresh's child, or for the root.
-#[derive(Drop)]
+#[derive(Clone, Copy)]
 pub enum Want {
     E,
     W,
@@ -33,7 +35,7 @@ pub enum Want {
 }
 
 // The node of the entry that is chosen, or that none suits.
-#[derive(Drop)]
+#[derive(Clone, Copy)]
 pub enum Chosen {
     At(u16),
     Missing,

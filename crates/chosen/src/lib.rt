@@ -3,6 +3,8 @@
 // specs/Form.antt says how the bytes stand in memory, specs/Chosen.antt which memories hold a tree; the contracts cite these and, inside,
 // specs/Answers.antt. The laws that crates above cite stand in proofs/: Holding.antt (a memory that holds bytes is read again, and no other
 // holds them) and Written.antt (what is written for a tree is in order).
+#![tactic(auto)]
+
 ghost use Rattle.std.specs.Prelude.{true, ◌++◌, ◌≡◌, ◌+◌, ◌-◌, ◌<◌, ◌≤◌, length, get_or, take, drop};
 ghost use Rattle.words.specs.Memory.{zeroed};
 ghost use Rattle.memory.specs.Layout.{work_words};
@@ -24,21 +26,21 @@ const MAX_RECORDS: usize = 4096;
 const MAX_BYTES: usize = 136;
 
 // How many roots there are after a record, or that it is none that is written.
-#[derive(Drop)]
+#[derive(Clone, Copy)]
 enum Roots {
     Left(usize),
     Broken,
 }
 
 // How many bytes a record has and how many roots there are after it, or that the bytes write no tree.
-#[derive(Drop)]
+#[derive(Clone, Copy)]
 enum Step {
     Next(usize, usize),
     Broken,
 }
 
 // How many bytes a memory holds, or that it holds no tree.
-#[derive(Drop)]
+#[derive(Clone, Copy)]
 pub enum Held {
     Bytes(usize),
     Nothing,

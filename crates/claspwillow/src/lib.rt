@@ -2,6 +2,8 @@
 //
 // Each entry has a promise in specs/Promises.antt, which its contract cites; proofs/Determined.antt shows that any two outcomes that a
 // promise allows are equal, and proofs/CheckLaws.antt what the check tells to the entries above. The parts of compile's entry cite specs/Results.antt.
+#![tactic(auto)]
+
 ghost use Rattle.std.proofs.Math.Option.{some};
 ghost use Rattle.std.specs.Prelude.{◌≡◌, true, length};
 ghost use Rattle.memory.specs.Layout.{work_words};
@@ -199,7 +201,7 @@ pub extern "C" fn claspwillow_compile_work() -> usize
 }
 
 // How many bytes were written, or the number of a refusal.
-#[derive(Drop)]
+#[derive(Clone, Copy)]
 enum Put {
     Bytes(usize),
     Refused(u8),

@@ -2,6 +2,8 @@
 // number that stands for an equal one, so that what is remembered by policy structure is found by comparing numbers.
 //
 // Its contracts cite `specs/Classes.antt`. The laws that crates above cite stand in `proofs/Laws.antt`.
+#![tactic(auto)]
+
 ghost use Rattle.std.specs.Prelude.{◌≡◌, ◌<◌};
 ghost use Rattle.policies.specs.Array.{policy_at, Good, Named};
 ghost use Rattle.classes.specs.Classes.{Decides, Stands, Least, ClassPut, max_numbers, class_place, class_at, Classified, ClassesRead};

@@ -2,6 +2,8 @@
 // (insert_elem_closure in policy/compiler.rs).
 //
 // Its contracts cite `specs/Closed.antt` and `specs/Typing.antt`.
+#![tactic(auto)]
+
 ghost use Rattle.std.specs.Prelude.{◌≡◌, ◌<◌, length};
 ghost use Rattle.candidates.specs.Casts.{all_casts};
 ghost use Rattle.definition.specs.Tables.{probs};
@@ -28,13 +30,13 @@ const MAX_POPS: usize = 4096;
 const FUEL_SPENT: u8 = 9;
 
 // How offers ended: all were taken or turned away, or one was refused with a number of document 01.
-#[derive(Drop)]
+#[derive(Clone, Copy)]
 pub enum End {
     Done,
     Refused(u8),
 }
 
-#[derive(Drop)]
+#[derive(Clone, Copy)]
 pub struct Closed {
     pub table: Table,
     pub end: End,

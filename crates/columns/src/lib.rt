@@ -2,6 +2,8 @@
 // was written.
 //
 // Every function is safe and ends. No contract can say what is written to a descriptor.
+#![tactic(auto)]
+
 use report::say;
 
 // Writes a space.

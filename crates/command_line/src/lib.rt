@@ -2,6 +2,8 @@
 // right.
 //
 // The contracts cite specs/Words.antt. No contract can say which words are given, nor what is written to a descriptor.
+#![tactic(auto)]
+
 ghost use Rattle.std.specs.Prelude.{◌≡◌};
 ghost use Rattle.command_line.specs.Words.{Names, NamesLater, context_place, last_word, most_words, count_for, asked_of};
 
@@ -43,7 +45,7 @@ pub const MOVED_WORD: usize = 2;
 pub const MOVED_OUTPUT_WORD: usize = 3;
 
 // What the program is asked to do: a command in a context, a mover's, or nothing, and the reason has been said.
-#[derive(Drop)]
+#[derive(Clone, Copy)]
 pub enum Asked {
     Compile(u32),
     Size(u32),
@@ -60,7 +62,7 @@ pub enum Asked {
 }
 
 // The command that the words name; `Words` is a script shown word by word.
-#[derive(Drop)]
+#[derive(Clone, Copy)]
 pub enum Command {
     Compile,
     Size,
@@ -77,7 +79,7 @@ pub enum Command {
 }
 
 // How many words there are, beside how many a command takes.
-#[derive(Drop)]
+#[derive(Clone, Copy)]
 pub enum Count {
     TooFew,
     TooMany,

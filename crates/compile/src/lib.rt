@@ -3,6 +3,8 @@
 //
 // The contract of `compile` is the definition's compile_read (definition, specs/Compile.antt) by specs/Answers.antt. Work memory may hold
 // anything before, and holds anything after.
+#![tactic(auto)]
+
 ghost use Rattle.std.specs.Prelude.{◌≡◌, length, []};
 ghost use Rattle.memory.specs.Layout.{work_words, node_count};
 ghost use Rattle.policies.specs.Array.{policy_at};
@@ -35,14 +37,14 @@ const TOP_LEVEL_NON_SAFE: u8 = 12;
 const OUTPUT_TOO_SMALL: u8 = 13;
 
 // How many bytes were written, the bits of the tree's cost, whether that is never, and the nodes used; or the number of a refusal.
-#[derive(Drop)]
+#[derive(Clone, Copy)]
 pub enum Answer {
     Compiled(usize, u64, u32, usize),
     Refused(u8),
 }
 
 // The node of the tree, or the number of a refusal.
-#[derive(Drop)]
+#[derive(Clone, Copy)]
 enum Root {
     At(u16),
     Refused(u8),

@@ -1,4 +1,6 @@
 // The commands that compile a policy, that tell how large its tree is, and that check a fragment tree.
+#![tactic(auto)]
+
 ghost use Rattle.std.specs.Prelude.{◌≤◌, length};
 
 use command_line::{INPUT_WORD, OUTPUT_WORD};

@@ -14,6 +14,8 @@
 //
 // A caller looks at the first word of standard output, which is document 01's number; there is none where something else went wrong, and then
 // standard error says what. Each command's work stands in a crate of its own.
+#![tactic(auto)]
+
 use command_line::Asked;
 
 fn main() {

@@ -1,5 +1,7 @@
 // The correctness properties of a fragment: its base, z o n, d and u. The rules are those of specs/CorrectnessRules.antt, the digits of a
 // packed type those of specs/Digits.antt. Bools are joined by & and |: both sides are at hand, and there is nothing to skip.
+#![tactic(auto)]
+
 ghost use Rattle.std.specs.Prelude.{◌≡◌};
 ghost use Rattle.correctness.specs.Letters.{is_b, is_k, is_v, is_w, base_eq, is_zero, is_one, is_non_zero};
 ghost use Rattle.correctness.specs.CorrectnessRules.{correctness, ok_if, TRUE, FALSE, pk_k, pk_h, multi, multi_a, hash, time};
@@ -13,7 +15,7 @@ ghost use Rattle.correctness.specs.Digits.{base_rank, input_rank, base_of, input
 use contexts::Context;
 
 // Where a fragment can stand.
-#[derive(Drop)]
+#[derive(Clone, Copy)]
 pub enum Base {
     B,
     K,
@@ -78,7 +80,7 @@ impl Base {
 }
 
 // How many stack elements a fragment takes.
-#[derive(Drop)]
+#[derive(Clone, Copy)]
 pub enum Input {
     Zero,
     One,
@@ -152,7 +154,7 @@ impl Input {
 }
 
 // The correctness properties of a fragment.
-#[derive(Drop)]
+#[derive(Clone, Copy)]
 pub struct Correctness {
     pub base: Base,
     pub input: Input,
@@ -161,14 +163,14 @@ pub struct Correctness {
 }
 
 // What a correctness rule answers.
-#[derive(Drop)]
+#[derive(Clone, Copy)]
 pub enum CorrectnessResult {
     Ok(Correctness),
     IllTyped,
 }
 
 // The correctness of a threshold's children, as far as they are read: whether each may stand where it stands, and what they take together.
-#[derive(Drop)]
+#[derive(Clone, Copy)]
 pub struct CorrectnessSoFar {
     pub fits: bool,
     pub input: Input,

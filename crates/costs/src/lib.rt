@@ -4,6 +4,8 @@
 // Contracts cite `specs/Rules.antt` (the rules), `specs/Price.antt` (what a candidate costs: finite, never, or not a cost),
 // `specs/Cost1d.antt` (a candidate's cost) and `specs/Weights.antt` (the weights). Document 01's marked figures stand in
 // `specs/Figures.antt`, proved in `proofs/Figures.antt`.
+#![tactic(auto)]
+
 ghost use Rattle.std.specs.Prelude.{◌≡◌, ◌-◌, min, take};
 ghost use Rattle.costs.specs.Rules.{TRUE, FALSE, pk_k, pk_h, multi, multi_a, hash, time};
 ghost use Rattle.costs.specs.Rules.{cast_alt, cast_swap, cast_check, cast_dupif, cast_verify, cast_nonzero};
@@ -22,28 +24,28 @@ const MAX: f64 = 1.7976931348623157e308;
 const MAX_CHILDREN: usize = 16;
 
 // The kind of signature that a context checks.
-#[derive(Drop)]
+#[derive(Clone, Copy)]
 pub enum SigType {
     Ecdsa,
     Schnorr,
 }
 
 // What dissatisfying a fragment costs, if it can be dissatisfied.
-#[derive(Drop)]
+#[derive(Clone, Copy)]
 pub enum DissatCost {
     Some(f64),
     None,
 }
 
 // What satisfying and dissatisfying a fragment cost, in bytes of the witness.
-#[derive(Drop)]
+#[derive(Clone, Copy)]
 pub struct Cost {
     pub sat_cost: f64,
     pub dissat_cost: DissatCost,
 }
 
 // What a rule answers that needs a child's dissatisfaction cost: the cost, or that the needed one is missing.
-#[derive(Drop)]
+#[derive(Clone, Copy)]
 pub enum Costed {
     Cost(Cost),
     Missing,
@@ -456,7 +458,7 @@ impl Cost {
 }
 
 // What a candidate costs at given probabilities: a finite cost; never, where no witness will do; or not a cost, which is refused.
-#[derive(Drop)]
+#[derive(Clone, Copy)]
 pub enum Price {
     Finite(f64),
     Never,
@@ -464,7 +466,7 @@ pub enum Price {
 }
 
 // The probability that a fragment is dissatisfied; None where it never is.
-#[derive(Drop)]
+#[derive(Clone, Copy)]
 pub enum DissatProb {
     Some(f64),
     None,
@@ -493,7 +495,7 @@ pub fn cost_1d(pk_cost: u32, cost: Cost, sat_prob: f64, dissat_prob: DissatProb)
 }
 
 // How likely each branch of an Or is to be taken.
-#[derive(Drop)]
+#[derive(Clone, Copy)]
 pub struct OrWeights {
     pub lw: f64,
     pub rw: f64,

@@ -1,6 +1,8 @@
 // One assignment under which a policy holds and a fragment tree does not, or the other way round: the first in the order of the truth tables.
 //
 // The contracts cite specs/Example.antt.
+#![tactic(auto)]
+
 ghost use Rattle.std.specs.Prelude.{false, not, ◌&&◌, ◌≡◌, ◌<◌, length, get_or};
 ghost use Rattle.policies.specs.Policy.{Policy};
 ghost use Rattle.policies.specs.Array.{policy_at, Good};
@@ -27,7 +29,7 @@ const BLOCKS: u64 = 64;
 const BITS: u64 = 64;
 
 // A bit in which two words differ, if one was found, and that bit of the left word.
-#[derive(Drop)]
+#[derive(Clone, Copy)]
 pub struct Apart {
     pub found: bool,
     pub bit: u64,
@@ -35,7 +37,7 @@ pub struct Apart {
 }
 
 // An assignment, if one was found, by its block and its bit in the truth tables, and whether the policy holds under it.
-#[derive(Drop)]
+#[derive(Clone, Copy)]
 pub struct Example {
     pub found: bool,
     pub block: u64,
@@ -44,7 +46,7 @@ pub struct Example {
 }
 
 // The same with the variables.
-#[derive(Drop)]
+#[derive(Clone, Copy)]
 pub struct Told {
     pub vars: Vars,
     pub example: Example,

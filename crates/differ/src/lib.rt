@@ -3,6 +3,8 @@
 // The definition is specs/Numbered.antt and specs/Differences.antt, what holds of it specs/Laws.antt; the entry's promise stands in
 // specs/Differ.antt, and proofs/Determined.antt shows that it determines the outcome. The inner contracts cite specs/Records.antt (two
 // records side by side) and specs/Telling.antt (differences in an output).
+#![tactic(auto)]
+
 ghost use Rattle.std.specs.Prelude.{◌≡◌, ◌&&◌, [], ◌∷◌, ◌<◌, ◌≤◌, length};
 ghost use Rattle.records.specs.Payloads.{first_keys};
 ghost use Rattle.trees.specs.Fragment.{Fragment};
@@ -29,7 +31,7 @@ const HALF: usize = 4096;
 const WORK_WORDS: usize = 8192;
 
 // The number of an outcome and how many differences it told.
-#[derive(Drop)]
+#[derive(Clone, Copy)]
 pub struct Given {
     pub number: u32,
     pub count: u64,

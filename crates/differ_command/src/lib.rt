@@ -1,6 +1,8 @@
 // The command that tells what differs between two trees.
 //
 // Its contract cites specs/Sides.antt.
+#![tactic(auto)]
+
 ghost use Rattle.std.specs.Prelude.{◌≡◌, length};
 ghost use Rattle.trees.specs.Reading.{max_records};
 ghost use Rattle.differ_command.specs.Sides.{Refuses, Accuses};

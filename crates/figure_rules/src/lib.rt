@@ -1,6 +1,8 @@
 // The figures of a record's fragment from those of its children: which rule of `figures` and `thresholds` a record's kind has.
 //
 // Contracts cite specs/ByKind.antt. Nothing here reads memory: figures come and go by value.
+#![tactic(auto)]
+
 ghost use Rattle.std.specs.Prelude.{◌≡◌, ℕ, ◌≤◌, ◌<◌};
 ghost use Rattle.figures.specs.Bounds.{Small};
 ghost use Rattle.figure_rules.specs.ByKind.{lock_or_hash, leaf_of, cast_of, pair_of, figures_by, Ready};

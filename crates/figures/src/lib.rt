@@ -1,6 +1,8 @@
 //! The figures of a fragment: script cost, free-verify, operations, what satisfying and dissatisfying it take, and its height.
 //! The contracts cite specs/Rules.antt (the figures of each fragment), specs/Validity.antt (when a context takes them) and
 //! specs/Bounds.antt (figures so small that no sum wraps).
+#![tactic(auto)]
+
 ghost use Rattle.std.specs.Prelude.{◌≡◌, not, ◌<◌, ◌≤◌};
 ghost use Rattle.figures.specs.Bounds.{limit, SmallData, SmallSat, Small};
 ghost use Rattle.figures.specs.Validity.{global_consensus, global_policy, ops_within, stack_within, items_within};
@@ -35,7 +37,7 @@ const MAX_BLOCK_WEIGHT: u64 = 4_000_000;
 const MAX_RECURSION_DEPTH: u64 = 402;
 
 // The worst case of satisfying, or of dissatisfying, a fragment.
-#[derive(Drop)]
+#[derive(Clone, Copy)]
 pub struct SatData {
     pub max_witness_stack_size: u64,
     pub max_witness_stack_count: u64,
@@ -45,14 +47,14 @@ pub struct SatData {
 }
 
 // A worst case, or none where there is no way to satisfy, or to dissatisfy.
-#[derive(Drop)]
+#[derive(Clone, Copy)]
 pub enum Sat {
     Some(SatData),
     None,
 }
 
 // The figures of a fragment.
-#[derive(Drop)]
+#[derive(Clone, Copy)]
 pub struct ExtData {
     pub pk_cost: u64,
     pub has_free_verify: bool,

@@ -1,13 +1,15 @@
 // Files that a program reads to their end or writes whole. Each function but `read_all` says on standard error what failed.
 //
 // The contracts cite specs/Rooms.antt. No contract can say what is read from a descriptor or written to it.
+#![tactic(auto)]
+
 ghost use Rattle.std.specs.Prelude.{length};
 ghost use Rattle.files.specs.Rooms.{Within, Held};
 
 use libc::{STDERR_FILENO, STDIN_FILENO};
 
 // What reading a file to its end answers: how many bytes it has, that they fill all the room, or that a read failed.
-#[derive(Drop)]
+#[derive(Clone, Copy)]
 pub enum Reading {
     Whole(usize),
     TooLong,
@@ -15,7 +17,7 @@ pub enum Reading {
 }
 
 // What loading a file answers: how many bytes it has, or that the reason why there are none has been said.
-#[derive(Drop)]
+#[derive(Clone, Copy)]
 pub enum Loaded {
     Bytes(usize),
     Nothing,

@@ -1,4 +1,6 @@
 // The commands that build the index of a fragment tree and that look a byte of its script up.
+#![tactic(auto)]
+
 ghost use Rattle.std.specs.Prelude.{length};
 ghost use Rattle.files.specs.Rooms.{Held};
 

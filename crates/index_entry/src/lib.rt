@@ -4,6 +4,8 @@
 // The entries' promises stand in specs/Index.antt, over the places of the crate `index_places`; proofs/Determined.antt shows that they determine the
 // outcome. The inner contracts cite specs/Memory.antt and specs/Building.antt, over
 // the index in work memory of the crate `index_memory`; leaves and the pieces around children have the sizes of the crate `index_sizes`.
+#![tactic(auto)]
+
 ghost use Rattle.std.specs.Prelude.{map, ◌≡◌, ℕ, ◌+◌, ◌-◌, ◌*◌, ◌≤◌, ◌<◌, length, get_or, set, take};
 ghost use Rattle.contexts.specs.declared.Context.{Context};
 ghost use Rattle.index_places.specs.Places.{ahead};
@@ -32,14 +34,14 @@ const NOT_ITS_INDEX: u32 = 20;
 const WORK_WORDS: usize = 16384;
 
 // The number of an outcome and the bytes that it wrote.
-#[derive(Drop)]
+#[derive(Clone, Copy)]
 pub struct Given {
     pub number: u32,
     pub bytes: u64,
 }
 
 // The number of an outcome, whether a fragment was found, and its record.
-#[derive(Drop)]
+#[derive(Clone, Copy)]
 pub struct Told {
     pub number: u32,
     pub found: u32,

@@ -1,6 +1,8 @@
 // The index of a tree in work memory: what it says of a record, its bytes written and compared, and a byte of the script looked up.
 //
 // specs/Entries.antt has the index in bytes, specs/Memory.antt how work memory holds it, specs/Looking.antt what is asked of it.
+#![tactic(auto)]
+
 ghost use Rattle.std.specs.Prelude.{◌++◌, ◌≡◌, ◌*◌, ◌/◌, ◌%◌, ◌≤◌, ◌<◌, length, drop};
 ghost use Rattle.index_memory.specs.Entries.{part, digit};
 ghost use Rattle.index_memory.specs.Memory.{work_words, size_in, first_in, subtree_in, entry_in, index_in};

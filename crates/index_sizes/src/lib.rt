@@ -1,4 +1,6 @@
 // How many bytes of the script a leaf has, and the pieces around a fragment's children: the sizes of crate `index_places`, computed.
+#![tactic(auto)]
+
 ghost use Rattle.std.specs.Prelude.{◌≡◌, ◌≤◌, ◌<◌, length};
 ghost use Rattle.script_leaves.specs.Leaves.{numbered, leaf_of};
 ghost use Rattle.script_entry.specs.Pieces.{front, after, last};

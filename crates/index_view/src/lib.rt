@@ -1,6 +1,8 @@
 // The index of a tree as a viewer reads it: which record holds a byte of the script, and how deep a record stands.
 //
 // The contracts cite specs/View.antt.
+#![tactic(auto)]
+
 ghost use Rattle.std.specs.Prelude.{cond, ◌≡◌, ◌≤◌, ◌<◌};
 ghost use Rattle.index_view.specs.View as View;
 ghost use Rattle.index_view.specs.View.{count, type_in, height_in, first_in, length_in};

@@ -1,5 +1,7 @@
 // The malleability properties of a fragment: f or e, s and m. The rules are those of specs/MalleabilityRules.antt, the digits of a packed
 // type those of specs/Digits.antt. Bools are joined by & and |: both sides are at hand, and there is nothing to skip.
+#![tactic(auto)]
+
 ghost use Rattle.std.specs.Prelude.{◌≡◌};
 ghost use Rattle.malleability.specs.Letters.{is_none, is_unique};
 ghost use Rattle.malleability.specs.MalleabilityRules.{TRUE, FALSE, pk_k, pk_h, multi, multi_a, hash, time};
@@ -11,7 +13,7 @@ ghost use Rattle.malleability.specs.ThresholdSteps.{counted, mall_first, mall_ne
 ghost use Rattle.malleability.specs.Digits.{dissat_rank, dissat_of, unpack_mall};
 
 // Whether a fragment has a dissatisfaction, and whether it is the only one.
-#[derive(Drop)]
+#[derive(Clone, Copy)]
 pub enum Dissat {
     None,
     Unique,
@@ -104,7 +106,7 @@ fn and_or_dissat(kept: bool, c: Dissat) -> Dissat
 }
 
 // The malleability properties of a fragment.
-#[derive(Drop)]
+#[derive(Clone, Copy)]
 pub struct Malleability {
     pub dissat: Dissat,
     pub safe: bool,
@@ -112,7 +114,7 @@ pub struct Malleability {
 }
 
 // The malleability of a threshold's children, as far as they are read.
-#[derive(Drop)]
+#[derive(Clone, Copy)]
 pub struct MalleabilitySoFar {
     pub safe_count: usize,
     pub all_unique: bool,

@@ -1,4 +1,6 @@
 // The commands that move a policy to keys of 64 bits and back to keys of 32 bits.
+#![tactic(auto)]
+
 use command_line::{MOVED_OUTPUT_WORD, MOVED_WORD};
 use files::Loaded;
 use record_files::{ROOM, load_records};

@@ -2,6 +2,8 @@
 //
 // Their promise stands in specs/Promises.antt, and proofs/Determined.antt shows that it determines the outcome; what holds of them, and what compile
 // gives for a policy that was moved, stands in specs/Laws.antt. What moving is, is the crate `moving`.
+#![tactic(auto)]
+
 ghost use Rattle.moving.specs.declared.Form.TheVariants as Form;
 ghost use Rattle.movers.specs.Promises.{MovePromise};
 

@@ -2,6 +2,8 @@
 //
 // Its contracts cite `specs/Moving.antt` (what moving is) and `specs/Answers.antt` (what its parts answer). What holds of moving stands in
 // `specs/Laws.antt`.
+#![tactic(auto)]
+
 ghost use Rattle.std.specs.Prelude.{◌≡◌, ◌||◌, ◌+◌, ◌≤◌, length};
 ghost use Rattle.std.proofs.lemmas.List.Edits.{sets};
 ghost use Rattle.words.specs.Bytes.{bytes_of};
@@ -28,21 +30,21 @@ const KEY_TOO_LARGE: u32 = 18;
 const MAX_OLD_KEY: u64 = 4_294_967_295;
 
 // What a policy's keys are written in: four bytes in an old policy, eight in a new one.
-#[derive(Drop)]
+#[derive(Clone, Copy)]
 pub enum Form {
     Old,
     New,
 }
 
 // How many bytes a policy has once it is moved, and whether a key is too large for it.
-#[derive(Drop)]
+#[derive(Clone, Copy)]
 pub struct Extent {
     pub bytes: usize,
     pub large: bool,
 }
 
 // The number of an outcome and the bytes that it wrote.
-#[derive(Drop)]
+#[derive(Clone, Copy)]
 pub struct Given {
     pub number: u32,
     pub bytes: u64,

@@ -1,6 +1,8 @@
 // The names of fragments and of answers, and the letters of types, each in places that hold a space where nothing stands.
 //
 // The contracts cite specs/Names.antt, specs/Letters.antt and specs/Text.antt.
+#![tactic(auto)]
+
 ghost use Rattle.std.specs.Prelude.{cond, ◌≡◌, length, take};
 ghost use Rattle.io.specs.Counts.{IsPrefixLen};
 ghost use Rattle.names.specs.Text.{space, in_places, without_spaces};

@@ -11,7 +11,7 @@ use Rattle.words.proofs.Stores.{sets_below, sets-in}
 use Rattle.figures.specs.Bounds.{Entered}
 use Rattle.figures.proofs.Entering.{false-entered, true-entered}
 use Rattle.candidates.specs.declared.Candidate.{Candidate}
-use Rattle.candidates.specs.Leaves.{FALSE, TRUE}
+use Rattle.candidates.specs.Leaves.{false_candidate, true_candidate}
 use Rattle.definition.specs.Tables.{Table}
 use Rattle.nodes.specs.declared.Added.TheVariants.{At, Full}
 use Rattle.memory.specs.Layout.{work_words, max_nodes, max_rows, rows_from, word_at, node_count, table_count, row_count}
@@ -183,16 +183,16 @@ rowed {m₀} {m₁} {m} {row} {ws} holds room words e₁ e =
 
 -- ---- False and True alone
 
-pub false-fits : {x : Candidate} → x ≡ FALSE → (x.kind < 0x40) × FitExt x.ext
-false-fits e = rw e (omega arith, entered-fits 0 FALSE.ext (omega arith) (false-entered 0))
+pub false-fits : {x : Candidate} → x ≡ false_candidate → (x.kind < 0x40) × FitExt x.ext
+false-fits e = rw e (omega arith, entered-fits 0 false_candidate.ext (omega arith) (false-entered 0))
 
-pub true-fits : {x : Candidate} → x ≡ TRUE → (x.kind < 0x40) × FitExt x.ext
-true-fits e = rw e (omega arith, entered-fits 0 TRUE.ext (omega arith) (true-entered 0))
+pub true-fits : {x : Candidate} → x ≡ true_candidate → (x.kind < 0x40) × FitExt x.ext
+true-fits e = rw e (omega arith, entered-fits 0 true_candidate.ext (omega arith) (true-entered 0))
 
 pub words-as : {x y : Candidate} {ws : List ℕ} → x ≡ y → WordsAre x ws → WordsAre y ws
 words-as {x} {y} {ws} e w = subst (λ (z : Candidate). WordsAre z ws) e w
 
-module _ (m₀ no yes : List ℕ) (long : length m₀ ≡ work_words) (false_words : WordsAre FALSE no) (true_words : WordsAre TRUE yes) where
+module _ (m₀ no yes : List ℕ) (long : length m₀ ≡ work_words) (false_words : WordsAre false_candidate no) (true_words : WordsAre true_candidate yes) where
   start : List ℕ
   start = set (set (set m₀ 0 2) 1 0) 2 0
 
@@ -234,22 +234,22 @@ module _ (m₀ no yes : List ℕ) (long : length m₀ ≡ work_words) (false_wor
       early 2 (omega arith)
       ∙ get_or-set_same (set (set m₀ 0 2) 1 0) 2 0 0 (omega (arith, length-set (set m₀ 0 2) 1 0, length-set m₀ 0 2))
 
-  node-0 : node_at both 0 ≡ FALSE
+  node-0 : node_at both 0 ≡ false_candidate
   unfolding both
   node-0 =
-      node-is both 0 FALSE no false_words
+      node-is both 0 false_candidate no false_words
       (λ k l. sets_below yes (sets start 8 no) 16 (8 + k) 0 (omega arith)
       ∙ sets-in no start 8 k 0 (omega (arith, no-long)) (omega (arith, no-long, start-long)))
 
-  node-1 : node_at both 1 ≡ TRUE
+  node-1 : node_at both 1 ≡ true_candidate
   unfolding both
   node-1 =
-      node-is both 1 TRUE yes true_words
+      node-is both 1 true_candidate yes true_words
       (λ k l. sets-in yes (sets start 8 no) 16 k 0 (omega (arith, yes-long)) (omega (arith, yes-long, one-long)))
 
   each-of-two : (i : ℕ) → i < 2 → NodeHolds both i
-  each-of-two zero l = node-as both 0 FALSE node-0 (false-entered max_figure) (λ k. absurd (omega arith))
-  each-of-two (suc zero) l = node-as both 1 TRUE node-1 (true-entered max_figure) (λ k. absurd (omega arith))
+  each-of-two zero l = node-as both 0 false_candidate node-0 (false-entered max_figure) (λ k. absurd (omega arith))
+  each-of-two (suc zero) l = node-as both 1 true_candidate node-1 (true-entered max_figure) (λ k. absurd (omega arith))
   each-of-two (suc (suc i)) l = absurd (omega arith)
 
   begun-both : Begun both

@@ -19,7 +19,7 @@ use Rattle.definition.specs.Candidates as definition
 use Rattle.definition.specs.Search as definition-search
 use Rattle.definition.specs.Search.{policy_of, key_or, searcher, searchers}
 use Rattle.candidates.specs.declared.Candidate.{Candidate}
-use Rattle.candidates.specs.Leaves.{FALSE, TRUE, pk_k, pk_h, after, older, sha256, hash256, ripemd160, hash160, multi, multi_a}
+use Rattle.candidates.specs.Leaves.{false_candidate, true_candidate, pk_k, pk_h, after, older, sha256, hash256, ripemd160, hash160, multi, multi_a}
 use Rattle.trees.specs.Height.{max_height}
 use Rattle.nodes.specs.Views.{tree_of, seen_as, all_nodes, offered, keys_of}
 use Rattle.nodes.specs.Offers.{Offerable}
@@ -33,13 +33,13 @@ unfolding seen_as
 by-tree pol m x is = ap (λ (g : Fragment). definition.candidate g x.ty x.ext x.cost) is
 
 module _ (pol m : List ℕ) where
-  pub false-seen : offered pol m FALSE ≡ definition.false'
+  pub false-seen : offered pol m false_candidate ≡ definition.false'
   unfolding tree_of find
-  false-seen = by-tree pol m FALSE refl
+  false-seen = by-tree pol m false_candidate refl
 
-  pub true-seen : offered pol m TRUE ≡ definition.true'
+  pub true-seen : offered pol m true_candidate ≡ definition.true'
   unfolding tree_of find
-  true-seen = by-tree pol m TRUE refl
+  true-seen = by-tree pol m true_candidate refl
 
   module _ (held : ℕ) {n : ℕ} where
     pub pk-k-seen : (c : Context) → policy_at pol held ≡ Key n → offered pol m (pk_k c held) ≡ definition.pk_k c n
@@ -126,10 +126,10 @@ keys-are c (x ▹ xs) keys is =
 -- ---- a leaf may be offered
 
 module _ (m : List ℕ) where
-  pub false-offers : Offerable m FALSE
+  pub false-offers : Offerable m false_candidate
   false-offers = plain-offers (entering.entered-candidate (entering.false-entered max_height)) refl
 
-  pub true-offers : Offerable m TRUE
+  pub true-offers : Offerable m true_candidate
   true-offers = plain-offers (entering.entered-candidate (entering.true-entered max_height)) refl
 
   pub pk-k-offers : (c : Context) (held : ℕ) → Offerable m (pk_k c held)

@@ -16,7 +16,7 @@ use Rattle.trees.specs.Tree.{find}
 use Rattle.definition.specs.Candidates.{Candidate, false', true'}
 use Rattle.candidates.specs.declared.Candidate as code
 use Rattle.candidates.specs.Candidates.{candidate}
-use Rattle.candidates.specs.Leaves.{FALSE, TRUE}
+use Rattle.candidates.specs.Leaves.{false_candidate, true_candidate}
 use Rattle.memory.specs.Layout.{node_count}
 use Rattle.nodes.specs.Words.{node_at}
 use Rattle.nodes.specs.Views.{among, tree_of, seen_as, first_nodes, all_nodes, seen}
@@ -74,11 +74,11 @@ TreeIs pol m kind first second third f =
 
 -- the first two nodes
 
-false-as : (pol m : List ℕ) (n : ℕ) → seen_as pol m (first_nodes pol m n) FALSE ≡ false'
+false-as : (pol m : List ℕ) (n : ℕ) → seen_as pol m (first_nodes pol m n) false_candidate ≡ false'
 unfolding seen_as tree_of find
 false-as pol m n = refl
 
-true-as : (pol m : List ℕ) (n : ℕ) → seen_as pol m (first_nodes pol m n) TRUE ≡ true'
+true-as : (pol m : List ℕ) (n : ℕ) → seen_as pol m (first_nodes pol m n) true_candidate ≡ true'
 unfolding seen_as tree_of find
 true-as pol m n = refl
 

@@ -2,7 +2,7 @@
 use Rattle.std.specs.Prelude.{List, ◌≡◌, ℕ, suc, ◌<◌, ◌≤◌, length, get_or}
 use Rattle.figures.specs.Bounds.{Entered}
 use Rattle.candidates.specs.declared.Candidate.{Candidate}
-use Rattle.candidates.specs.Leaves.{FALSE, TRUE}
+use Rattle.candidates.specs.Leaves.{false_candidate, true_candidate}
 use Rattle.nodes.specs.declared.Added.{Added}
 use Rattle.nodes.specs.declared.Added.TheVariants.{At, Full}
 use Rattle.memory.specs.Layout.{work_words, max_nodes, max_rows, rows_from, keys_from, node_count, table_count, row_count, SameWords}
@@ -27,8 +27,8 @@ pub record Holds (m : List ℕ) : Type 0 where
   pub two : 2 ≤ node_count m
   pub few : node_count m ≤ max_nodes
   pub rows : row_count m ≤ max_rows
-  pub false_first : node_at m 0 ≡ FALSE
-  pub true_next : node_at m 1 ≡ TRUE
+  pub false_first : node_at m 0 ≡ false_candidate
+  pub true_next : node_at m 1 ≡ true_candidate
   pub nodes : (i : ℕ) → i < node_count m → NodeHolds m i
 
 -- nodes and rows are only appended

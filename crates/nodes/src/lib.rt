@@ -3,6 +3,8 @@
 // Its contracts cite `specs/Words.antt` (the words of a node), `specs/Views.antt` (the candidates of the definition that nodes stand for),
 // `specs/Answers.antt` (what holds of the nodes, and how they grow) and, inside, `specs/Stored.antt` (what storing a node or a row asks). Crate
 // `memory` says where everything stands. The laws that crates above cite stand in `proofs/`.
+#![tactic(auto)]
+
 ghost use Rattle.std.specs.Prelude.{◌≡◌, ◌+◌, ◌/◌, ◌%◌, ◌^◌, ◌<◌, ◌≤◌, length};
 ghost use Rattle.std.proofs.lemmas.List.Edits.{sets};
 ghost use Rattle.contexts.specs.Bools.{bool_rank};
@@ -24,7 +26,7 @@ const MAX_NODES: usize = 65536;
 const ROWS_FROM: usize = 524296;
 
 // What adding a candidate answers: the number of its node, or that there is room for no more.
-#[derive(Drop)]
+#[derive(Clone, Copy)]
 pub enum Added {
     At(u16),
     Full,
@@ -145,7 +147,7 @@ pub fn node(work: &[u64], i: u16) -> Candidate
 }
 
 // What a table compares of a node besides its type: whether verifying it is free, the bytes of its script, and its cost.
-#[derive(Drop)]
+#[derive(Clone, Copy)]
 pub struct Head {
     pub free_verify: bool,
     pub pk_cost: u32,

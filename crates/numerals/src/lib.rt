@@ -1,6 +1,8 @@
 // The numbers that words write in ASCII: decimal ones of 32 bits, and 64 bits in hexadecimal digits.
 //
 // The contracts cite specs/Numbers.antt.
+#![tactic(auto)]
+
 ghost use Rattle.std.specs.Prelude.{◌≡◌, ◌^◌, ◌≤◌, length};
 ghost use Rattle.numerals.specs.Numbers.{number_in, found32, found64};
 ghost use Rattle.numerals.specs.Numbers.{digit as Numbers·digit, decimal as Numbers·decimal, bits as Numbers·bits};
@@ -14,14 +16,14 @@ const MAX_DIGITS: usize = 10;
 const TOO_LARGE: u64 = 4_294_967_296;
 
 // What reading a number of 32 bits finds.
-#[derive(Drop)]
+#[derive(Clone, Copy)]
 pub enum Number32 {
     Is(u32),
     Missing,
 }
 
 // What reading a number of 64 bits finds.
-#[derive(Drop)]
+#[derive(Clone, Copy)]
 pub enum Number64 {
     Is(u64),
     Missing,

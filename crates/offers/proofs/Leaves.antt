@@ -10,7 +10,7 @@ use Rattle.policies.specs.Forms.{kind_of, number_of, lock_kind, hash_kind}
 use Rattle.policies.specs.Array.{policy_at}
 use Rattle.policies.proofs.Forms.{is-unsatisfiable, is-trivial, is-after, is-older, is-sha256, is-hash256, is-ripemd160, is-hash160}
 use Rattle.candidates.specs.declared.Candidate as code
-use Rattle.candidates.specs.Leaves.{FALSE, TRUE, after, older, sha256, hash256, ripemd160, hash160}
+use Rattle.candidates.specs.Leaves.{false_candidate, true_candidate, after, older, sha256, hash256, ripemd160, hash160}
 use Rattle.definition.specs.Candidates as definition
 use Rattle.definition.specs.Candidates.{Candidate}
 use Rattle.definition.specs.Search.{leaves}
@@ -119,11 +119,11 @@ hash-offers Hash160 m held = hash160-offers m held
 -- ---- each kind
 
 module _ {kind number r : ℕ} {x : code.Candidate} where
-  pub true-leaf : kind ≡ 2 → x ≡ TRUE → LeafOf kind number r x
+  pub true-leaf : kind ≡ 2 → x ≡ true_candidate → LeafOf kind number r x
   true-leaf e is =
       subst (LeafOf kind number r) (sym is)
       (record {
-        says = λ pol m leaf formed key c. leaf-says c pol m TRUE (is-trivial (policy_at pol r) (leaf.is_kind ∙ e)) refl (true-seen pol m);
+        says = λ pol m leaf formed key c. leaf-says c pol m true_candidate (is-trivial (policy_at pol r) (leaf.is_kind ∙ e)) refl (true-seen pol m);
         offers = true-offers;
       })
 
@@ -152,13 +152,13 @@ module _ {kind number r : ℕ} {x : code.Candidate} where
       })
 
   -- any other leaf but a key is Unsatisfiable
-  pub false-leaf : NoOther kind → x ≡ FALSE → LeafOf kind number r x
+  pub false-leaf : NoOther kind → x ≡ false_candidate → LeafOf kind number r x
   false-leaf none is =
       subst (LeafOf kind number r) (sym is)
       (record {
         says =
             λ pol m leaf formed key c.
             let first = only-first kind none leaf.low key (λ z. some-kind (policy_at pol r) (leaf.is_kind ∙ z)) in
-            leaf-says c pol m FALSE (is-unsatisfiable (policy_at pol r) (leaf.is_kind ∙ first)) refl (false-seen pol m);
+            leaf-says c pol m false_candidate (is-unsatisfiable (policy_at pol r) (leaf.is_kind ∙ first)) refl (false-seen pol m);
         offers = false-offers;
       })

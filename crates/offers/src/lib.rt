@@ -2,6 +2,8 @@
 // policy/compiler.rs); and which pairs need not be offered.
 //
 // Its contracts cite `specs/Offering.antt`.
+#![tactic(auto)]
+
 ghost use Rattle.std.specs.Prelude.{◌≡◌, ◌<◌, ◌≤◌, length, take};
 ghost use Rattle.definition.specs.Tables.{probs};
 ghost use Rattle.memory.specs.Layout.{work_words, node_count};

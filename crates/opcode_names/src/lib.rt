@@ -2,6 +2,8 @@
 // numbers 1 to 16 have a number in their name and are not in the table.
 //
 // The contract cites specs/Opcodes.antt.
+#![tactic(auto)]
+
 ghost use Rattle.std.specs.Prelude.{◌≡◌};
 ghost use Rattle.names.specs.Text.{in_places};
 ghost use Rattle.names.specs.Names.{name_in};

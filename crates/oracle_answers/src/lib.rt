@@ -1,6 +1,8 @@
 // What was given for a case of the stored list: whether it is what the case's line says, and how the list writes it, on standard output.
 //
 // The contract of `agrees` cites specs/Answers.antt. No contract can say what is written to a descriptor.
+#![tactic(auto)]
+
 ghost use Rattle.std.specs.Prelude.{◌≡◌, ◌<◌};
 ghost use Rattle.definition.specs.AnswersOfTheRust.{same_bytes};
 ghost use Rattle.oracle_answers.specs.Answers.{answers};

@@ -1,6 +1,8 @@
 // What a line of the stored list says: docs/BENCH.md, "The stored list".
 //
 // The contracts cite specs/Lines.antt; those of the parts of the reading specs/Reads.antt as well.
+#![tactic(auto)]
+
 ghost use Rattle.std.specs.Prelude.{◌≡◌, ◌+◌, ◌*◌, ◌≤◌, length};
 ghost use Rattle.numerals.specs.Numbers.{found32};
 ghost use Rattle.numerals.specs.Numbers.{decimal as Numbers·decimal};
@@ -17,28 +19,28 @@ const HASH: u8 = 35;
 const DASH: u8 = 45;
 
 // What reading records finds: how many bytes they are.
-#[derive(Drop)]
+#[derive(Clone, Copy)]
 pub enum Length {
     Is(usize),
     Missing,
 }
 
 // What reading a cost finds: its bits, and 1 where it is never, else 0.
-#[derive(Drop)]
+#[derive(Clone, Copy)]
 pub enum CostRead {
     Is(u64, u32),
     Missing,
 }
 
 // Where the words of a line end, all but the last; or that there are not six.
-#[derive(Drop)]
+#[derive(Clone, Copy)]
 pub enum Words {
     Six(usize, usize, usize, usize, usize),
     Other,
 }
 
 // What a line says of a case. The policy and the output stand at the front of their rooms; here are their lengths.
-#[derive(Drop)]
+#[derive(Clone, Copy)]
 pub struct Said {
     pub context: u32,
     pub policy: usize,
@@ -50,7 +52,7 @@ pub struct Said {
 }
 
 // What reading a line finds.
-#[derive(Drop)]
+#[derive(Clone, Copy)]
 pub enum Case {
     Passed,
     Says(Said),

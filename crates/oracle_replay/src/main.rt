@@ -2,6 +2,8 @@
 //
 // What a line says and what comes of it stand in the crates `oracle_lines` and `oracle_verdicts`, whose definitions the contracts cite. No contract can say what
 // is written to a descriptor.
+#![tactic(auto)]
+
 mod showing;
 
 ghost use Rattle.std.specs.Prelude.{◌≡◌, ◌≤◌, length};

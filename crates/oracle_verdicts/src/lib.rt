@@ -1,6 +1,8 @@
 // Whether a line of the stored list gives the answer that the port gives, and how many lines do.
 //
 // The contracts cite specs/Verdicts.antt, which judges by the definition of compile.
+#![tactic(auto)]
+
 ghost use Rattle.std.specs.Prelude.{◌≡◌, ◌*◌, ◌^◌, ◌<◌, ◌≤◌, length};
 ghost use Rattle.memory.specs.Layout.{work_words};
 ghost use Rattle.oracle_lines.specs.Lines.{line_of};
@@ -11,7 +13,7 @@ use oracle_answers::agrees;
 use oracle_lines::{Case, Said, read_line};
 
 // What comes of a line. Where it differs: the number, the length of the output, the bits of the cost, whether it is never, and the nodes that the port gave.
-#[derive(Drop)]
+#[derive(Clone, Copy)]
 pub enum Verdict {
     Passed,
     Agrees,
@@ -20,7 +22,7 @@ pub enum Verdict {
 }
 
 // How many lines agree, differ and are broken.
-#[derive(Drop)]
+#[derive(Clone, Copy)]
 pub struct Tally {
     pub agree: u64,
     pub differ: u64,

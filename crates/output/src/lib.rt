@@ -3,6 +3,8 @@
 //
 // Its contracts cite `specs/Records.antt` (the record that a node writes), `specs/Answers.antt` (what measuring and writing answer) and, inside,
 // `specs/Inside.antt` (what the parts of writing ask and answer). The laws that they rest on stand in `proofs/`.
+#![tactic(auto)]
+
 ghost use Rattle.std.specs.Prelude.{◌≡◌, ◌+◌, ◌*◌, ◌<◌, ◌≤◌, length, take};
 ghost use Rattle.std.proofs.lemmas.List.Edits.{sets};
 ghost use Rattle.words.specs.Bytes.{bytes_of};
@@ -28,21 +30,21 @@ const THRESH: u16 = 56;
 const MAX_RECORDS: usize = 4096;
 
 // How large a tree is: its records and their bytes, or that it has more records than it may.
-#[derive(Drop)]
+#[derive(Clone, Copy)]
 pub enum Extent {
     Fits(usize, usize),
     TooMany,
 }
 
 // What writing a tree answers: how many bytes it wrote, or that they do not fit or have too many records.
-#[derive(Drop)]
+#[derive(Clone, Copy)]
 pub enum Written {
     Bytes(usize),
     TooSmall,
 }
 
 // The place after what is written, and how many records stand before it.
-#[derive(Drop)]
+#[derive(Clone, Copy)]
 struct End {
     at: usize,
     records: usize,

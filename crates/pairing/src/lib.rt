@@ -3,6 +3,8 @@
 //
 // Its contracts cite `specs/Mades.antt` and `specs/Fits.antt`. That these candidates, in turn, are the definition's `binary` and `ternary` is proved in
 // `proofs/Turns.antt`.
+#![tactic(auto)]
+
 ghost use Rattle.std.specs.Prelude.{◌≡◌, ◌<◌, ◌≤◌, get_or, length, eqb, true, false};
 ghost use Rattle.candidates.specs.Pairs.{all_pairs, pair_of, and_or};
 ghost use Rattle.memory.specs.Layout.{work_words, node_count};

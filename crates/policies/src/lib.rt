@@ -5,6 +5,8 @@
 // the array's numbers stand for), and say them as answers by `specs/Heads.antt` and `specs/Answers.antt`. `specs/Policy.antt` has the
 // policies themselves. The laws that crates above cite stand in `proofs/Weights.antt`, `proofs/Forms.antt`, `proofs/Views.antt` and
 // `proofs/Heaviest.antt`.
+#![tactic(auto)]
+
 ghost use Rattle.std.specs.Prelude.{◌≡◌, List, ◌<◌, ◌≤◌, max, ◌&&◌, ◌||◌, eqb, length, drop};
 ghost use Rattle.policies.specs.Policy.{Policy, depth, weight};
 ghost use Rattle.policies.specs.Forms.{made, or_kind};
@@ -40,7 +42,7 @@ const OR: u16 = 11;
 const THRESH: u64 = 12;
 
 // What a policy is besides its children: 0 where it has no such part. `count` is the number of its children.
-#[derive(Drop)]
+#[derive(Clone, Copy)]
 pub struct Head {
     pub kind: u64,
     pub number: u64,
@@ -217,7 +219,7 @@ pub fn weight(pol: &[u64], i: usize) -> u64
 }
 
 // What reading one record leaves: its length, or a refusal.
-#[derive(Drop)]
+#[derive(Clone, Copy)]
 pub enum Step {
     Next(usize),
     BadPolicy,
@@ -225,7 +227,7 @@ pub enum Step {
 }
 
 // What reading all records leaves: how many there are, or a refusal.
-#[derive(Drop)]
+#[derive(Clone, Copy)]
 pub enum RecordsRead {
     All(usize),
     BadPolicy,
@@ -234,7 +236,7 @@ pub enum RecordsRead {
 }
 
 // What reading a policy answers: the number of its root, a refusal of document 01, or that the array lent is not of the one length.
-#[derive(Drop)]
+#[derive(Clone, Copy)]
 pub enum ReadPolicy {
     Root(usize),
     BadPolicy,

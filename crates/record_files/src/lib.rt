@@ -1,4 +1,6 @@
 // Files of records that a word of the command line names: policies and fragment trees.
+#![tactic(auto)]
+
 ghost use Rattle.std.specs.Prelude.{length};
 ghost use Rattle.files.specs.Rooms.{Held};
 

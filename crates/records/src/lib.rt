@@ -4,6 +4,8 @@
 // `specs/Answers.antt`. The laws that crates above cite stand in `proofs/Laws.antt`,
 // `proofs/KindRanges.antt` and `proofs/Arities.antt`.
 // A `bytes` that a function takes is the bytes of one whole record.
+#![tactic(auto)]
+
 ghost use Rattle.std.specs.Prelude.{◌≡◌, ◌≤◌, ◌<◌, drop};
 ghost use Rattle.std.proofs.Math.Option.{none, some};
 ghost use Rattle.records.specs.Numbers.{number_at, u16, u32, u64, u16s, max_count};
@@ -22,7 +24,7 @@ const MAX_LOCK: u64 = 2147483647;
 const MAX_COUNT: u16 = 16;
 
 // The shape of a payload.
-#[derive(Drop)]
+#[derive(Clone, Copy)]
 pub enum Shape {
     Nothing,
     Number,
@@ -36,14 +38,14 @@ pub enum Shape {
 }
 
 // Whether a number is a kind, and the shape of its payload.
-#[derive(Drop)]
+#[derive(Clone, Copy)]
 pub enum KindShape {
     Known(Shape),
     Unknown,
 }
 
 // The whole length of a record.
-#[derive(Drop)]
+#[derive(Clone, Copy)]
 pub enum RecordLength {
     Whole(usize),
     Broken,
@@ -51,7 +53,7 @@ pub enum RecordLength {
 
 // Whether a record is of the form, and the parts of its payload: 0 where it has none, and where it is not of the form.
 // `count` is the number of children or keys, and `children` has zeros past the children; keys stay in the record.
-#[derive(Drop)]
+#[derive(Clone, Copy)]
 pub struct Parts {
     pub fits: bool,
     pub number: u64,

@@ -2,7 +2,7 @@
 use libc::STDOUT_FILENO;
 
 // The whole part of a number from 0 up to 2^64.
-#[derive(Drop)]
+#[derive(Clone, Copy)]
 enum Whole {
     Is(u64),
     Other,

@@ -2,6 +2,8 @@
 // answer says so on standard error.
 //
 // Every function is safe and ends. No contract can say what is written to a descriptor.
+#![tactic(auto)]
+
 use libc::STDOUT_FILENO;
 use names::{answer_name, close_up, correctness_letters, kind_name, malleability_letters};
 use records::{KindShape, Parts, RecordLength, Shape};
@@ -11,7 +13,7 @@ mod amounts;
 mod differences;
 
 // A tree that a refusal is about, of two, or none of them.
-#[derive(Drop)]
+#[derive(Clone, Copy)]
 pub enum Side {
     Left,
     Right,

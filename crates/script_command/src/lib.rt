@@ -1,4 +1,6 @@
 // The commands that write a script, as it is or word by word: the tree and the four tables come from files.
+#![tactic(auto)]
+
 ghost use Rattle.std.specs.Prelude.{◌≤◌, length};
 ghost use Rattle.files.specs.Rooms.{Held};
 
@@ -158,7 +160,7 @@ fn script_from(context: u32, input: usize)
 }
 
 // Where a script that is asked for comes from: its context, and the place of TREE among the words.
-#[derive(Drop)]
+#[derive(Clone, Copy)]
 struct Place {
     asked: bool,
     context: u32,

@@ -3,6 +3,8 @@
 // The entry's promise stands in `script_bytes`, specs/ScriptOf.antt; proofs/Determined.antt there shows that it determines the outcome. The
 // inner contracts cite specs/Pieces.antt (a fragment's bytes, piece by piece) and specs/Outcomes.antt; the crate
 // `walk` has the records.
+#![tactic(auto)]
+
 ghost use Rattle.std.specs.Prelude.{◌≡◌, true, ◌&&◌, ◌-◌, ◌≤◌, length};
 ghost use Rattle.trees.specs.Fragment.{Fragment};
 ghost use Rattle.trees.specs.Reading.{max_records};
@@ -60,7 +62,7 @@ const BOOLOR: u8 = 0x9b;
 const CHECKSIG: u8 = 0xac;
 
 // The number of an outcome and the bytes that it wrote.
-#[derive(Drop)]
+#[derive(Clone, Copy)]
 pub struct Given {
     pub number: u32,
     pub bytes: u64,

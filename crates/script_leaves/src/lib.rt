@@ -3,6 +3,8 @@
 //
 // Its contracts cite `specs/Laying.antt` (where bytes are laid and end) and `specs/Leaves.antt` (the fragment of a record), and from
 // `script_bytes` the bytes themselves. The laws that compose them stand in `proofs/Laws.antt`.
+#![tactic(auto)]
+
 ghost use Rattle.std.specs.Prelude.{◌≡◌, true, [], ◌∷◌, ◌++◌, ◌+◌, ◌<◌};
 ghost use Rattle.words.specs.Bytes as Little;
 ghost use Rattle.records.specs.Payloads.{first_keys, keys_in};

@@ -2,6 +2,8 @@
 // where not, what shows an answer says so on standard error.
 //
 // The contracts cite specs/Lines.antt. No contract can say what is written to a descriptor.
+#![tactic(auto)]
+
 ghost use Rattle.std.specs.Prelude.{◌≡◌, ◌<◌, ◌≤◌, length};
 ghost use Rattle.index_view.specs.View.{count};
 ghost use Rattle.script_view.specs.Lines.{pushed, word_end};

@@ -3,6 +3,8 @@
 // array `pol` stands for, at the probabilities of satisfaction and of dissatisfaction.
 //
 // Its contracts cite `specs/Searching.antt`; crate `search_state` says what a search and work on a table leave.
+#![tactic(auto)]
+
 ghost use Rattle.std.specs.Prelude.{◌≡◌, map, ◌<◌, ◌≤◌, take, length};
 ghost use Rattle.costs.specs.Arithmetic.{◌⊘◌, ◌⊗◌, float_of};
 ghost use Rattle.policies.specs.Forms.{kind_of, children_of};
@@ -55,28 +57,28 @@ const NOT_A_COST: u8 = 10;
 const LIMITS_EXCEEDED: u8 = 11;
 
 // What a pairing leaves: the table, and whether it is known to be settled.
-#[derive(Drop)]
+#[derive(Clone, Copy)]
 pub struct Outcome {
     pub closed: Closed,
     pub settled: bool,
 }
 
 // The slots of the tables that were asked for, in order, or a refusal.
-#[derive(Drop)]
+#[derive(Clone, Copy)]
 pub struct Asked {
     pub slots: [u16; 8],
     pub end: End,
 }
 
 // The best entry of a table, or a refusal.
-#[derive(Drop)]
+#[derive(Clone, Copy)]
 pub enum Best {
     At(u16),
     Refused(u8),
 }
 
 // The best expressions of a Thresh's children as E and as W, or a refusal.
-#[derive(Drop)]
+#[derive(Clone, Copy)]
 pub struct Bests {
     pub es: [u16; 16],
     pub ws: [u16; 16],

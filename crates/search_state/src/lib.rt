@@ -2,6 +2,8 @@
 //
 // Its contracts cite `specs/State.antt` (work memory as the definition's state) and `specs/Recalled.antt`. The laws that crates above cite stand in
 // `proofs/`.
+#![tactic(auto)]
+
 ghost use Rattle.std.specs.Prelude.{◌≡◌, ◌<◌};
 ghost use Rattle.policies.specs.Array.{policy_at, Named};
 ghost use Rattle.costs.specs.declared.DissatProb.TheVariants.{None};
@@ -25,7 +27,7 @@ const CACHE_FULL: u8 = 8;
 const LIMITS_EXCEEDED: u8 = 11;
 
 // What a search answers: the slot of its table, or a refusal of document 01.
-#[derive(Drop)]
+#[derive(Clone, Copy)]
 pub enum Out {
     Slot(u16),
     Refused(u8),

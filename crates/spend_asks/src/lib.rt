@@ -2,6 +2,8 @@
 //
 // The outcomes are read in the log where they stand. As in `spend_stack`, a word's contract cites `spend_machine`, specs/Recorded.antt, through
 // specs/Machines.antt of that crate; specs/Answers.antt here says what the functions between them answer.
+#![tactic(auto)]
+
 ghost use Rattle.std.specs.Prelude.{◌≡◌, List, ℕ, ◌<◌, ◌≤◌, length};
 ghost use Rattle.contexts.specs.Leaves.{LockKind, HashKind};
 ghost use Rattle.script_machine.specs.Numbers.{write};
@@ -17,14 +19,14 @@ use spend_elements::{Element, Number};
 use spend_stack::{Machine, Status};
 
 // A count and so many elements below it: missing, or where the elements below all of them end.
-#[derive(Drop)]
+#[derive(Clone, Copy)]
 pub enum Group {
     Missing,
     Found(usize),
 }
 
 // The next outcome, where yes or no is asked for.
-#[derive(Drop)]
+#[derive(Clone, Copy)]
 pub enum Said {
     Neither,
     No,
@@ -32,7 +34,7 @@ pub enum Said {
 }
 
 // The next outcome.
-#[derive(Drop)]
+#[derive(Clone, Copy)]
 pub enum Answer {
     Missing,
     No,

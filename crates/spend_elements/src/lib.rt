@@ -2,6 +2,8 @@
 //
 // Its contracts cite `specs/Elements.antt` (the bytes of an element), `specs/Signed.antt` (numbers by sign and size) and `script_machine`,
 // specs/Numbers.antt and specs/Machine.antt (what the words make of bytes). No function asks anything of an element.
+#![tactic(auto)]
+
 ghost use Rattle.std.specs.Prelude.{◌≡◌, List, ◌&&◌, ◌||◌, ℕ, ◌+◌, ◌<◌, ◌≤◌, eqb, length, get_or, take, drop, pos, ◌+ℤ◌, ◌-ℤ◌};
 ghost use Rattle.words.specs.Bytes.{bytes_of};
 ghost use Rattle.script_machine.specs.Numbers.{is_true, element, same};
@@ -13,7 +15,7 @@ ghost use Rattle.spend_elements.specs.Elements.{held, small_length, range_length
 use contexts::Context;
 
 // A number by its sign and its size; `short` says whether its bytes are at most 4.
-#[derive(Drop)]
+#[derive(Clone, Copy)]
 pub struct Number {
     pub short: bool,
     pub negative: bool,
@@ -24,7 +26,7 @@ pub struct Number {
 const HELD: usize = 4294967296;
 
 // An element: `len` bytes of the log from `at` on; or, if `len` is HELD and some more, so many bytes, which are the digits of `at`.
-#[derive(Drop)]
+#[derive(Clone, Copy)]
 pub struct Element {
     pub at: usize,
     pub len: usize,

@@ -2,6 +2,8 @@
 //
 // The entry's promise stands in `spend_replay`, specs/Replay.antt; proofs/Determined.antt there shows that it determines the outcome, and
 // proofs/Laws.antt that entries don't affect one another. The inner contracts cite specs/Results.antt (reports in an output).
+#![tactic(auto)]
+
 ghost use Rattle.std.specs.Prelude.{◌≡◌, ◌+◌, ◌*◌, ◌-◌, ◌≤◌, length};
 ghost use Rattle.trees.specs.Fragment.{Fragment};
 ghost use Rattle.walk.specs.TreeRecords.{TreeRecords, Written, fragment_at};
@@ -31,7 +33,7 @@ const BAD_LOG: u32 = 14;
 const NO_ENTRY: u32 = 17;
 
 // The number of an outcome and how many entries it reported.
-#[derive(Drop)]
+#[derive(Clone, Copy)]
 pub struct Given {
     pub number: u32,
     pub count: u64,

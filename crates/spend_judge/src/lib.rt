@@ -2,6 +2,8 @@
 //
 // Its contracts cite `spend_machine`, specs/Verdicts.antt, of what stands in the log by specs/Places.antt; proofs/Entries.antt shows that this
 // is the entry that is read there, and specs/Results.antt says what loading leaves.
+#![tactic(auto)]
+
 ghost use Rattle.std.specs.Prelude.{◌≡◌, ◌&&◌, List, [], reverse, ℕ, ◌≤◌, ◌<◌, ltb, length};
 ghost use Rattle.contexts.specs.Lists.{all};
 ghost use Rattle.script_machine.specs.Numbers.{Stack};
@@ -37,7 +39,7 @@ const MISMATCHED: u32 = 2;
 pub const TOO_LARGE: u32 = 3;
 
 // An entry's number, where its stack, its outcomes and its recorded end begin, and where it ends.
-#[derive(Drop)]
+#[derive(Clone, Copy)]
 pub struct EntryAt {
     pub number: u32,
     pub start: usize,

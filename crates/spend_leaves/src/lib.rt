@@ -2,6 +2,8 @@
 //
 // Its contracts cite `spend_machine`, specs/Playing.antt, through specs/Acting.antt, and `script_leaves`, specs/Leaves.antt (the fragment of a
 // record). The laws that compose them stand in proofs/Laws.antt.
+#![tactic(auto)]
+
 ghost use Rattle.std.specs.Prelude.{◌≡◌, true, ◌<◌};
 ghost use Rattle.contexts.specs.Leaves.{LockKind, HashKind};
 ghost use Rattle.contexts.specs.declared.Context.{Context};

@@ -1,6 +1,8 @@
 // The text that `spends` shows: a line for each report, and the four counts.
 //
 // Its contracts cite specs/Lines.antt.
+#![tactic(auto)]
+
 ghost use Rattle.std.specs.Prelude.{◌++◌, ◌+◌, ◌*◌, ◌≤◌, length};
 ghost use Rattle.names.specs.Text.{bytes};
 ghost use Rattle.script_leaves.specs.Laying.{Lays};

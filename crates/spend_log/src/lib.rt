@@ -2,6 +2,8 @@
 //
 // What a log is stands in specs/Readers.antt and specs/Logs.antt, how one is written and read back in specs/Written.antt, and the contracts
 // say it of places in the log by specs/Places.antt. The laws that crates above cite stand in proofs/Passing.antt and proofs/Parts.antt.
+#![tactic(auto)]
+
 ghost use Rattle.std.specs.Prelude.{◌≡◌, ◌≤◌, ◌<◌, length, drop};
 ghost use Rattle.spend_log.specs.Readers.{several, counted, to_end};
 ghost use Rattle.spend_log.specs.Logs.{element, elements, outcome, ending, entry, head};
@@ -24,14 +26,14 @@ const YES: u8 = 1;
 const DIGEST: u8 = 2;
 
 // Where a part of a log ends, or that it does not fit.
-#[derive(Drop)]
+#[derive(Clone, Copy)]
 pub enum Place {
     At(usize),
     Broken,
 }
 
 // Some bytes of a log: where they begin, how many they are, and where they end.
-#[derive(Drop)]
+#[derive(Clone, Copy)]
 pub struct Part {
     pub start: usize,
     pub len: usize,
@@ -39,7 +41,7 @@ pub struct Part {
 }
 
 // An outcome: the byte in front, and its digest, no bytes where it has none.
-#[derive(Drop)]
+#[derive(Clone, Copy)]
 pub struct OutcomeAt {
     pub sort: u8,
     pub digest: Part,
@@ -47,7 +49,7 @@ pub struct OutcomeAt {
 }
 
 // The context of a log, and where its tables and its entries begin.
-#[derive(Drop)]
+#[derive(Clone, Copy)]
 pub struct Offsets {
     pub context: u32,
     pub keys: usize,
@@ -58,14 +60,14 @@ pub struct Offsets {
 }
 
 // What stands before the entries, or that it does not fit.
-#[derive(Drop)]
+#[derive(Clone, Copy)]
 pub enum HeadAt {
     Whole(Offsets),
     Broken,
 }
 
 // How many entries there are, or that one is broken.
-#[derive(Drop)]
+#[derive(Clone, Copy)]
 pub enum Counted {
     Entries(usize),
     Broken,

@@ -2,6 +2,8 @@
 //
 // Its contracts cite specs/Running.antt (what `run_record` asks and leaves, by `spend_machine`, specs/Playing.antt) and specs/Turns.antt (where
 // the run of a fragment goes, child by child); the crate `walk` has the records, `spend_leaves` the fragments without children.
+#![tactic(auto)]
+
 ghost use Rattle.std.specs.Prelude.{◌≡◌, List, ◌≢◌, true, ◌&&◌, ℕ, ◌<◌, length, get_or};
 ghost use Rattle.contexts.specs.declared.Context.{Context};
 ghost use Rattle.walk.specs.TreeRecords.{record_at};
@@ -24,7 +26,7 @@ use spend_stack::{Machine, Pair};
 const ALT_WRAPPER: u16 = 42;
 
 // A run between two children: the place of the child that is run next, as many as there are children if none is, and the machine.
-#[derive(Drop)]
+#[derive(Clone, Copy)]
 pub struct Turn {
     pub place: usize,
     pub m: Machine,

@@ -3,6 +3,8 @@
 // A word takes the log, the memory of the main stack (the memory of both stacks, if it moves an element between them) and the machine, and gives
 // the machine behind it; where the run goes no further it changes nothing. Its contract cites `spend_machine`, specs/Recorded.antt, through
 // specs/Machines.antt, which says what run a machine and its memory stand for; specs/Memory.antt says where the stacks lie.
+#![tactic(auto)]
+
 ghost use Rattle.std.specs.Prelude.{◌≡◌, List, ◌&&◌, ◌||◌, ℕ, ◌+◌, ◌<◌, ◌≤◌, length};
 ghost use Rattle.script_machine.specs.Words.{DUP, IFDUP, SWAP, SIZE, TOALTSTACK, FROMALTSTACK, VERIFY, 0NOTEQUAL, EQUAL};
 ghost use Rattle.spend_elements.specs.Elements.{bytes_in};
@@ -23,7 +25,7 @@ pub const STARTS: usize = 16384;
 pub const WORDS: usize = 20480;
 
 // How a run stands: it goes on, has aborted, lacked an outcome or met one of the wrong sort, or left too many elements.
-#[derive(Drop)]
+#[derive(Clone, Copy)]
 pub enum Status {
     Going,
     Aborted,
@@ -32,7 +34,7 @@ pub enum Status {
 }
 
 // A run between two words: how many elements each stack has, where the next outcome begins and how many are left, and how it stands.
-#[derive(Drop)]
+#[derive(Clone, Copy)]
 pub struct Machine {
     pub main: usize,
     pub alt: usize,
@@ -42,7 +44,7 @@ pub struct Machine {
 }
 
 // The words that take two numbers.
-#[derive(Drop)]
+#[derive(Clone, Copy)]
 pub enum Pair {
     NumEqual,
     BoolAnd,

@@ -1,6 +1,8 @@
 // Reports of a replay, read and counted by verdict.
 //
 // Its contracts cite specs/Tallies.antt.
+#![tactic(auto)]
+
 ghost use Rattle.std.specs.Prelude.{◌≡◌, ◌*◌, ◌≤◌, eqb, length};
 ghost use Rattle.spend_tally.specs.Tallies.{number_in, verdict_in, one, count_of, tally_of};
 
@@ -17,7 +19,7 @@ pub const MISMATCHED: u32 = 2;
 pub const TOO_LARGE: u32 = 3;
 
 // How many reports have each verdict.
-#[derive(Drop)]
+#[derive(Clone, Copy)]
 pub struct Tally {
     pub agree: usize,
     pub differ: usize,

@@ -1,6 +1,8 @@
 // `spends LOG [-v]` replays a log of recorded spends and shows a line for each entry, then the four counts, as docs/SPENDS.md tells.
 //
 // What is shown of the reports is defined in `spend_lines`, whose contracts put it together. No contract can say what is written to a descriptor.
+#![tactic(auto)]
+
 mod showing;
 
 use files::Loaded;

@@ -2,6 +2,8 @@
 // compile_binary and compile_tern are called in policy/compiler.rs.
 //
 // Its contracts cite `specs/Stages.antt`. That these tables are the definition's And and Or is proved in `proofs/Stages.antt`.
+#![tactic(auto)]
+
 ghost use Rattle.std.specs.Prelude.{◌≡◌, take};
 ghost use Rattle.stages.specs.Stages.{ask, pairing, and_asks, and_pairings, or_asks, or_pairings, and_or_asks, and_or_pairings, or_dissat};
 
@@ -26,7 +28,7 @@ const AND_OR: u16 = 55;
 const FALSE: u8 = 8;
 
 // One search: the number of its policy, and the probabilities of satisfaction and of dissatisfaction.
-#[derive(Drop)]
+#[derive(Clone, Copy)]
 pub struct Ask {
     pub r: usize,
     pub sat: f64,
@@ -34,7 +36,7 @@ pub struct Ask {
 }
 
 // One pairing: its kind, the places of the tables that it pairs, and the weights of its sides. A pair has no third.
-#[derive(Drop)]
+#[derive(Clone, Copy)]
 pub struct Pairing {
     pub kind: u16,
     pub first: u8,

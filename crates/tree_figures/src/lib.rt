@@ -1,6 +1,8 @@
 // The figures of every record of a fragment tree, children first, and whether every fragment of it is locally valid.
 //
 // specs/LocallyValid.antt says when a tree is. Inner contracts cite specs/Memory.antt: the figures of records in work memory.
+#![tactic(auto)]
+
 ghost use Rattle.std.specs.Prelude.{◌≡◌, ℕ, ◌+◌, ◌*◌, ◌≤◌, ◌<◌, length, get_or};
 ghost use Rattle.figures.specs.Rules.{num};
 ghost use Rattle.figures.specs.Bounds.{Candidate};

@@ -7,7 +7,10 @@ use mathlib.Core.Path.{◌≡◌, refl, ap, ◌∙◌}
 use native.Mathlib.Omega.{arith}
 use lib.Dec.{eqb}
 use Rattle.records.specs.Payloads.{Payload}
-use Rattle.trees.specs.Fragment.{Fragment, Fragments, Thresh}
+use Rattle.contexts.specs.Leaves.{After, Older, Sha256, Hash256, Ripemd160, Hash160}
+use Rattle.trees.specs.Fragment.{
+    Fragment, Fragments, False, True, PkK, PkH, Lock, Hash, Alt, Swap, Check, DupIf, Verify, NonZero, ZeroNotEqual, AndB, AndV, OrB, OrD, OrC, OrI, AndOr, Thresh, Multi, MultiA,
+}
 use Rattle.trees.specs.Height.{max_height, height_of, tallest_of}
 use Rattle.trees.specs.Tree.{Line, find, Maker, plain, with_number, one, two, three, fragments, of_children, of_keys, makers, made_by, fragment_of}
 use Rattle.trees.proofs.Slots.{All, empty, both, Any, here, there, IfSome}
@@ -78,16 +81,16 @@ thresh-rises p xs = ap suc (all-children xs)
 all-rise : All (λ (line : Line Maker). Rises line.this) makers
 unfolding height_of
 all-rise =
-    both (plain-rises _ refl) (both (plain-rises _ refl)
-    (both (number-rises _ λ n. refl) (both (number-rises _ λ n. refl)
-    (both (number-rises _ λ n. refl) (both (number-rises _ λ n. refl)
-    (both (number-rises _ λ n. refl) (both (number-rises _ λ n. refl) (both (number-rises _ λ n. refl) (both (number-rises _ λ n. refl)
-    (both (one-rises _ λ x. refl) (both (one-rises _ λ x. refl) (both (one-rises _ λ x. refl) (both (one-rises _ λ x. refl)
-    (both (one-rises _ λ x. refl) (both (one-rises _ λ x. refl) (both (one-rises _ λ x. refl)
-    (both (two-rises _ λ x y. refl) (both (two-rises _ λ x y. refl) (both (two-rises _ λ x y. refl)
-    (both (two-rises _ λ x y. refl) (both (two-rises _ λ x y. refl) (both (two-rises _ λ x y. refl)
-    (both (three-rises _ λ x y z. refl) (both thresh-rises
-    (both (keys-rises _ λ k ks. refl) (both (keys-rises _ λ k ks. refl) empty))))))))))))))))))))))))))
+    both (plain-rises False refl) (both (plain-rises True refl)
+    (both (number-rises PkK λ n. refl) (both (number-rises PkH λ n. refl)
+    (both (number-rises (Lock After) λ n. refl) (both (number-rises (Lock Older) λ n. refl)
+    (both (number-rises (Hash Sha256) λ n. refl) (both (number-rises (Hash Hash256) λ n. refl) (both (number-rises (Hash Ripemd160) λ n. refl) (both (number-rises (Hash Hash160) λ n. refl)
+    (both (one-rises Alt λ x. refl) (both (one-rises Swap λ x. refl) (both (one-rises Check λ x. refl) (both (one-rises DupIf λ x. refl)
+    (both (one-rises Verify λ x. refl) (both (one-rises NonZero λ x. refl) (both (one-rises ZeroNotEqual λ x. refl)
+    (both (two-rises AndB λ x y. refl) (both (two-rises AndV λ x y. refl) (both (two-rises OrB λ x y. refl)
+    (both (two-rises OrD λ x y. refl) (both (two-rises OrC λ x y. refl) (both (two-rises OrI λ x y. refl)
+    (both (three-rises AndOr λ x y z. refl) (both thresh-rises
+    (both (keys-rises Multi λ k ks. refl) (both (keys-rises MultiA λ k ks. refl) empty))))))))))))))))))))))))))
 
 found-rises : {lines : List (Line Maker)} (kind : ℕ) → All (λ (line : Line Maker). Rises line.this) lines → IfSome Rises (find kind lines)
 unfolding find

@@ -87,6 +87,7 @@ module _ {A B : Type 0} (N : ℕ → ℕ → Type 0) (R : A → B → Type 0) (S
   JointSlots a b = Joint N (Pairs (Alike R)) (Any (Free S)) a b
 
   some-free : (l : Slots A) → Any (Free S) l → (m n : ℕ) → N m n
+  some-free [] x' = elim x' [ ]
   some-free (none ∷ l) (here p) = absurd p
   some-free (some x ∷ l) (here p) = still x p
   some-free (none ∷ l) (there h) = some-free l h

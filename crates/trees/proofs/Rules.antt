@@ -12,8 +12,12 @@ use Rattle.types.specs.declared.TypeResult.{TypeResult}
 use Rattle.types.specs.declared.TypeResult.TheVariants.{Ok, IllTyped}
 use Rattle.types.specs.TypeRules as rule
 use Rattle.contexts.specs.declared.Context.{Context}
-use Rattle.trees.specs.Fragment.{Fragment, Fragments, Thresh}
+use Rattle.contexts.specs.Leaves.{After, Older, Sha256, Hash256, Ripemd160, Hash160}
+use Rattle.trees.specs.Fragment.{
+    Fragment, Fragments, False, True, PkK, PkH, Lock, Hash, Alt, Swap, Check, DupIf, Verify, NonZero, ZeroNotEqual, AndB, AndV, OrB, OrD, OrC, OrI, AndOr, Thresh, Multi, MultiA,
+}
 use Rattle.trees.specs.Typing.{◌>>=◌, all_typed, and_all, type_of, types_of}
+use Rattle.trees.specs.Typing.{in_segwitv0, in_tap}
 use Rattle.trees.specs.Reading.{Answer, refused, bad_tree}
 use Rattle.trees.specs.Tree.{Line, ◌is◌, find, Maker, plain, with_number, one, two, three, fragments, of_children, of_keys, makers}
 use Rattle.trees.specs.TreeCheck.{Typed}
@@ -82,6 +86,7 @@ module _ (c : Context) where
       same p (x ∷ xs) g = rw (is_none p x.tree (map (λ x. x.tree) xs))
 
       ill : (p : Payload) (xs : List Fragment) → Any Ill xs → IfSome Ill (maker p xs)
+      ill p [] a = elim a [ ]
       ill p (x ∷ xs) a = rw (is_none p x xs) tt
 
   plain_fits : (f : Fragment) (t : «Type») → type_of c f ≡ Ok t → Fits (plain f) (always t)
@@ -106,6 +111,8 @@ module _ (c : Context) where
       same p (x ∷ y ∷ xs) g = refl
 
       ill : (p : Payload) (xs : List Fragment) → Any Ill xs → IfSome Ill (one f p xs)
+      ill p [] a = elim a [ ]
+      ill p (x ∷ []) (there x9) = elim x9 [ ]
       ill p (x ∷ []) (here e) = h x ∙ rw e
       ill p (x ∷ y ∷ xs) a = tt
 
@@ -125,6 +132,8 @@ module _ (c : Context) where
       same p (x ∷ y ∷ z ∷ xs) g = refl
 
       ill : (p : Payload) (xs : List Fragment) → Any Ill xs → IfSome Ill (two f p xs)
+      ill p [] a = elim a [ ]
+      ill p (x ∷ (y ∷ [])) (there (there x15)) = elim x15 [ ]
       ill p (x ∷ []) a = tt
       ill p (x ∷ y ∷ []) (here e) = h x y ∙ rw e
       ill p (x ∷ y ∷ []) (there (here e)) = h x y ∙ rw e (second-ill (type_of c x))
@@ -146,6 +155,8 @@ module _ (c : Context) where
       same p (x ∷ y ∷ z ∷ w ∷ xs) g = refl
 
       ill : (p : Payload) (xs : List Fragment) → Any Ill xs → IfSome Ill (three f p xs)
+      ill p [] a = elim a [ ]
+      ill p (x ∷ (y ∷ (z ∷ []))) (there (there (there x21))) = elim x21 [ ]
       ill p (x ∷ []) a = tt
       ill p (x ∷ y ∷ []) a = tt
       ill p (x ∷ y ∷ z ∷ []) (here e) = h x y z ∙ rw e
@@ -162,6 +173,7 @@ module _ (c : Context) where
 
   types-ill : (xs : List Fragment) → Any Ill xs → types_of c (fragments xs) ≡ none
   unfolding fragments types_of
+  types-ill [] x' = elim x' [ ]
   types-ill (x ∷ xs) (here e) = rw e
   types-ill (x ∷ xs) (there a) = rw (types-ill xs a) (by_first (type_of c x))
     where
@@ -189,16 +201,16 @@ module _ (c : Context) where
   aligned : Aligned makers rules
   unfolding type_of
   aligned =
-      line (plain_fits _ _ refl) (line (plain_fits _ _ refl)
-      (line (number_fits _ _ λ n. refl) (line (number_fits _ _ λ n. refl)
-      (line (number_fits _ _ λ n. refl) (line (number_fits _ _ λ n. refl)
-      (line (number_fits _ _ λ n. refl) (line (number_fits _ _ λ n. refl) (line (number_fits _ _ λ n. refl) (line (number_fits _ _ λ n. refl)
-      (line (one-fits _ _ λ x. refl) (line (one-fits _ _ λ x. refl) (line (one-fits _ _ λ x. refl) (line (one-in-fits _ _ λ x. refl)
-      (line (one-fits _ _ λ x. refl) (line (one-fits _ _ λ x. refl) (line (one-fits _ _ λ x. refl)
-      (line (two_fits _ _ λ x y. refl) (line (two_fits _ _ λ x y. refl) (line (two_fits _ _ λ x y. refl)
-      (line (two_fits _ _ λ x y. refl) (line (two_fits _ _ λ x y. refl) (line (two_fits _ _ λ x y. refl)
-      (line (three-fits _ _ λ x y z. refl) (line thresh-fits
-      (line (keys-fits _ _ λ k ks. refl) (line (keys-fits _ _ λ k ks. refl) end))))))))))))))))))))))))))
+      line (plain_fits False rule.FALSE refl) (line (plain_fits True rule.TRUE refl)
+      (line (number_fits PkK rule.pk_k λ n. refl) (line (number_fits PkH rule.pk_h λ n. refl)
+      (line (number_fits (Lock After) rule.time λ n. refl) (line (number_fits (Lock Older) rule.time λ n. refl)
+      (line (number_fits (Hash Sha256) rule.hash λ n. refl) (line (number_fits (Hash Hash256) rule.hash λ n. refl) (line (number_fits (Hash Ripemd160) rule.hash λ n. refl) (line (number_fits (Hash Hash160) rule.hash λ n. refl)
+      (line (one-fits Alt rule.cast_alt λ x. refl) (line (one-fits Swap rule.cast_swap λ x. refl) (line (one-fits Check rule.cast_check λ x. refl) (line (one-in-fits DupIf rule.cast_dupif λ x. refl)
+      (line (one-fits Verify rule.cast_verify λ x. refl) (line (one-fits NonZero rule.cast_nonzero λ x. refl) (line (one-fits ZeroNotEqual rule.cast_zeronotequal λ x. refl)
+      (line (two_fits AndB rule.and_b λ x y. refl) (line (two_fits AndV rule.and_v λ x y. refl) (line (two_fits OrB rule.or_b λ x y. refl)
+      (line (two_fits OrD rule.or_d λ x y. refl) (line (two_fits OrC rule.or_c λ x y. refl) (line (two_fits OrI rule.or_i λ x y. refl)
+      (line (three-fits AndOr rule.and_or λ x y z. refl) (line thresh-fits
+      (line (keys-fits Multi (λ c. in_segwitv0 c rule.multi) λ k ks. refl) (line (keys-fits MultiA (λ c. in_tap c rule.multi_a) λ k ks. refl) end))))))))))))))))))))))))))
 
   -- the rule of a kind fits what the kind's record makes
   pub fits : (kind : ℕ) → FitsIfFound (find kind makers) (find kind rules)

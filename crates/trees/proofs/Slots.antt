@@ -66,6 +66,7 @@ module _ {A : Type 0} (P : A → Type 0) where
 
   -- a free slot is the one that is taken, or is free afterwards
   any-set : (slots : Slots A) (j : ℕ) → Any (Free P) slots → Free P (get_or slots j none) ⊎ Any (Free P) (set slots j none)
+  any-set [] j p = elim p [ ]
   any-set (o ∷ slots) zero (here p) = inl p
   any-set (o ∷ slots) zero (there p) = inr (there p)
   any-set (o ∷ slots) (suc j) (here p) = inr (here p)
@@ -86,6 +87,8 @@ module _ {A : Type 0} (P : A → Type 0) where
   root-any [] p = tt
   root-any (none ∷ []) p = tt
   root-any (some x ∷ []) (here p) = p
+  root-any (some x ∷ []) (there p) = elim p [ ]
+  root-any (none ∷ o ∷ slots) (here p) = elim p [ ]
   root-any (none ∷ o ∷ slots) (there p) = root-any (o ∷ slots) p
   root-any (some x ∷ o ∷ slots) p = tt
 
@@ -139,6 +142,9 @@ module _ {A B : Type 0} (R : A → B → Type 0) where
   pub root-pairs : (s : Slots A) (t : Slots B) → Pairs (Alike R) s t → Alike R (root_of s) (root_of t)
   unfolding root_of
   root-pairs [] [] empty = tt
+  root-pairs [] (o' ∷ t) p = elim p [ ]
+  root-pairs (o ∷ []) [] p = elim p [ ]
+  root-pairs (o ∷ u ∷ s) [] p = elim p [ ]
   root-pairs (o ∷ []) (o' ∷ []) (pair p empty) = p
   root-pairs (o ∷ []) (o' ∷ v ∷ t) (pair p q) = absurd (omega (arith, pairs-length (Alike R) q))
   root-pairs (o ∷ u ∷ s) (o' ∷ []) (pair p q) = absurd (omega (arith, pairs-length (Alike R) q))

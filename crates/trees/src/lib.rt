@@ -3,6 +3,8 @@
 // specs/Fragment.antt has the trees, specs/Typing.antt the type of a tree by the rules of the crate `types`, specs/Height.antt how tall it is,
 // specs/Reading.antt and specs/Tree.antt when bytes write a tree, specs/TreeCheck.antt the check. The contract of `check` cites specs/Checked.antt and
 // specs/TreeCheck.antt; those of the inner functions cite specs/Rules.antt and specs/WorkMemory.antt.
+#![tactic(auto)]
+
 ghost use Rattle.std.specs.Prelude.{[], ◌∷◌, ◌++◌, ◌≡◌, ℕ, max, ◌+◌, ◌-◌, ◌<◌, ◌≤◌, length, get_or, set, take};
 ghost use Rattle.std.proofs.Math.Option.{none, some};
 ghost use Rattle.types.specs.TypeRules.{multi, multi_a};
@@ -21,7 +23,7 @@ use records::RecordLength;
 use types::{Type, TypeResult, Unpacked};
 
 // What the tree check answers: the root's type, or a refusal.
-#[derive(Drop)]
+#[derive(Clone, Copy)]
 pub enum Checked {
     BadContext,
     BadWork,
@@ -33,28 +35,28 @@ pub enum Checked {
 }
 
 // The type of a tree, and how tall it is.
-#[derive(Drop)]
+#[derive(Clone, Copy)]
 pub struct Subtree {
     pub ty: Type,
     pub height: u64,
 }
 
 // What a record's slot holds: the tree that no later record has taken, or nothing.
-#[derive(Drop)]
+#[derive(Clone, Copy)]
 pub enum Slot {
     Free(Subtree),
     Taken,
 }
 
 // A record's children, if all could be taken.
-#[derive(Drop)]
+#[derive(Clone, Copy)]
 pub struct Children {
     pub taken: bool,
     pub subtrees: [Subtree; 16],
 }
 
 // How reading one record ends: with the number of children that it took, or with a refusal.
-#[derive(Drop)]
+#[derive(Clone, Copy)]
 pub enum Step {
     Next(usize),
     BadTree,

@@ -3,6 +3,8 @@
 //
 // specs/Alike.antt says what is decided. Contracts cite specs/Words.antt (words of 64 assignments, and counts in planes of them) and
 // specs/Gates.antt (each record as 'at least so many of these places').
+#![tactic(auto)]
+
 ghost use Rattle.std.specs.Prelude.{cond, List, map, ◌≡◌, ℕ, ◌+◌, ◌%◌, ◌≤◌, ◌<◌, eqb, leb, length, get_or, take};
 ghost use Rattle.records.specs.Numbers.{between};
 ghost use Rattle.policies.specs.Reading.{max_records};
@@ -24,7 +26,7 @@ const ALL: u64 = 0xffff_ffff_ffff_ffff;
 const BLOCKS: u64 = 64;
 
 // Places counted: plane t has the assignments under which at least t of them hold.
-#[derive(Drop)]
+#[derive(Clone, Copy)]
 pub struct Counted {
     pub planes: [u64; 17],
 }

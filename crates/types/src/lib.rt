@@ -1,5 +1,7 @@
 // The type of a Miniscript fragment: its rules, from types/mod.rs, the question whether one type is a subtype of another, and the derived
 // order of types. The contracts cite specs/TypeRules.antt, specs/Subtype.antt, specs/Mask.antt and specs/TypeOrder.antt.
+#![tactic(auto)]
+
 ghost use Rattle.std.specs.Prelude.{◌≡◌};
 ghost use Rattle.types.specs.TypeRules.{typed, TRUE, FALSE, pk_k, pk_h, multi, multi_a, hash, time};
 ghost use Rattle.types.specs.TypeRules.{cast_alt, cast_swap, cast_check, cast_dupif, cast_verify, cast_nonzero};
@@ -15,21 +17,21 @@ pub mod order;
 pub mod subtype;
 
 // The type of a fragment: its correctness and its malleability properties.
-#[derive(Drop)]
+#[derive(Clone, Copy)]
 pub struct Type {
     pub corr: Correctness,
     pub mall: Malleability,
 }
 
 // What a type rule answers.
-#[derive(Drop)]
+#[derive(Clone, Copy)]
 pub enum TypeResult {
     Ok(Type),
     IllTyped,
 }
 
 // How one type stands to another in the derived order.
-#[derive(Drop)]
+#[derive(Clone, Copy)]
 pub enum Ordering {
     Less,
     Equal,
@@ -37,14 +39,14 @@ pub enum Ordering {
 }
 
 // What a packed number stands for.
-#[derive(Drop)]
+#[derive(Clone, Copy)]
 pub enum Unpacked {
     Is(Type),
     NotAType,
 }
 
 // The type of a threshold's children, as far as they are read.
-#[derive(Drop)]
+#[derive(Clone, Copy)]
 pub struct TypeSoFar {
     pub corr: CorrectnessSoFar,
     pub mall: MalleabilitySoFar,

@@ -2,6 +2,8 @@
 //
 // specs/Variables.antt says which variables each has. Contracts cite specs/Gathering.antt: variables as a class and a number, the row of those
 // met so far, and what stands in one record.
+#![tactic(auto)]
+
 ghost use Rattle.std.specs.Prelude.{◌≡◌, List, [], ◌∷◌, map, ◌++◌, ◌<◌, ◌≤◌, length, take};
 ghost use Rattle.records.specs.Payloads.{first_keys};
 ghost use Rattle.walk.specs.Heads.{head_in};
@@ -17,14 +19,14 @@ ghost use Rattle.variables.specs.Gathering.{code_of, same_code, has_code, row_of
 const MAX_VARIABLES: usize = 12;
 
 // A variable: 0 a key, 1 After, 2 Older, 3 to 6 the four hashes; and its number.
-#[derive(Drop)]
+#[derive(Clone, Copy)]
 pub struct Var {
     pub class: u64,
     pub number: u64,
 }
 
 // The distinct variables met so far, or that there are more than twelve.
-#[derive(Drop)]
+#[derive(Clone, Copy)]
 pub struct Vars {
     pub list: [Var; 12],
     pub len: usize,
@@ -32,7 +34,7 @@ pub struct Vars {
 }
 
 // The variables that stand in one record.
-#[derive(Drop)]
+#[derive(Clone, Copy)]
 pub struct Own {
     pub list: [Var; 16],
     pub n: usize,

@@ -3,6 +3,8 @@
 // Its contracts cite `specs/Nodes.antt` and `specs/TreeRecords.antt`. The laws that crates above cite stand in `proofs/Laws.antt` (the tree
 // that the check read is that of the records), `proofs/KindLaws.antt` and `proofs/HeadLaws.antt` (the fragment of a record by its kind) and `proofs/FoldLaws.antt`
 // (what is computed over a tree, record by record).
+#![tactic(auto)]
+
 ghost use Rattle.std.specs.Prelude.{◌≡◌, ◌+◌, ◌≤◌, length};
 ghost use Rattle.trees.specs.Reading.{max_records};
 ghost use Rattle.walk.specs.TreeRecords.{Written, length_from, record_at};
@@ -11,7 +13,7 @@ ghost use Rattle.walk.specs.Nodes.{node_of, Placed, Scanned};
 use records::RecordLength;
 
 // A record: its kind, its k, and its n children, by their numbers; zeros follow them.
-#[derive(Drop)]
+#[derive(Clone, Copy)]
 pub struct Node {
     pub kind: u16,
     pub k: u16,

@@ -3,6 +3,8 @@
 //     witness LIST
 //
 // What it computes stands in the crates `witness_lines` and `witness_report`, whose definitions their contracts cite.
+#![tactic(auto)]
+
 ghost use Rattle.std.specs.Prelude.{◌≡◌, ◌≤◌, length};
 
 use files::Loaded;

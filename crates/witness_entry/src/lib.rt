@@ -2,6 +2,8 @@
 //
 // The entry's promise stands in specs/Witness.antt, and proofs/Determined.antt shows that it determines the outcome. The inner contracts cite
 // specs/Memory.antt (extremes in work memory) and specs/Records.antt (those of a record from those of its children).
+#![tactic(auto)]
+
 ghost use Rattle.std.specs.Prelude.{◌≡◌, ℕ, ◌+◌, ◌*◌, ◌≤◌, ◌<◌, length, get_or};
 ghost use Rattle.contexts.specs.declared.Context.{Context};
 ghost use Rattle.trees.specs.Fragment.{Fragment};
@@ -26,7 +28,7 @@ const WORK_WORDS: usize = 8192;
 const HALF: usize = 4096;
 
 // The number of an outcome, whether there is a way, and its fewest and most bytes.
-#[derive(Drop)]
+#[derive(Clone, Copy)]
 pub struct Given {
     pub number: u32,
     pub found: u32,

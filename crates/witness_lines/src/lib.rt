@@ -1,6 +1,8 @@
 // The lines of a list of trees and those of the report on them: docs/WITNESS.md.
 //
 // The contracts cite specs/Lines.antt (what a list says) and specs/Report.antt (the report's lines).
+#![tactic(auto)]
+
 ghost use Rattle.std.specs.Prelude.{◌≡◌, ◌+◌, ◌<◌, ◌≤◌, length};
 ghost use Rattle.witness_lines.specs.Lines.{EndsAt, shown_from, Reads};
 ghost use Rattle.witness_lines.specs.Report.{Number, Ending, ReportLine, Row, Rows, Appended, AppendedDigits, Shows};
@@ -14,7 +16,7 @@ const NEWLINE: u8 = 10;
 const SPACE: u8 = 32;
 
 // What a line of the list says: a context, and where in the line the path begins; or it has another form.
-#[derive(Drop)]
+#[derive(Clone, Copy)]
 pub enum Line {
     Input(u32, usize),
     Other,

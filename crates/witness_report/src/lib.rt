@@ -2,6 +2,8 @@
 //
 // The contracts cite specs/Answers.antt: what may come of a line, and that the counts are those of its lines. No contract can say what is read from
 // a file or written to a descriptor.
+#![tactic(auto)]
+
 ghost use Rattle.std.specs.Prelude.{◌≡◌, ◌+◌, ◌≤◌, ◌<◌, length};
 ghost use Rattle.files.specs.Rooms.{Within};
 ghost use Rattle.witness_entry.specs.Witness.{work_words};
@@ -34,21 +36,21 @@ const FULL: usize = 65_536;
 const STEP: u64 = 1_000;
 
 // How many bytes of a block are used, and whether every block before it was written.
-#[derive(Drop)]
+#[derive(Clone, Copy)]
 pub struct Block {
     pub used: usize,
     pub whole: bool,
 }
 
 // What came of a line, and the block after it.
-#[derive(Drop)]
+#[derive(Clone, Copy)]
 pub struct Told {
     pub outcome: Outcome,
     pub block: Block,
 }
 
 // The counts and sums of a list, and the last block.
-#[derive(Drop)]
+#[derive(Clone, Copy)]
 pub struct Ended {
     pub tally: Tally,
     pub block: Block,

@@ -2,6 +2,8 @@
 //
 // Contracts cite `witness_ways`, specs/Extremes.antt (each row), and specs/ByKind.antt (which row a record's kind has). Nothing here reads
 // memory: extremes come and go by value.
+#![tactic(auto)]
+
 ghost use Rattle.std.specs.Prelude.{◌≡◌, ◌-◌, ◌≤◌, ◌<◌, min, max, take};
 ghost use Rattle.witness_ways.specs.Elements.{signature_bytes, key_bytes};
 ghost use Rattle.witness_ways.specs.Extremes.{just, ◌and◌, ◌or◌, some_of, false_ways, true_ways, hash_ways, pk_k_ways, pk_h_ways};

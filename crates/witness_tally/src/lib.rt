@@ -1,11 +1,13 @@
 // The counts and sums of a report on what spends cost: docs/WITNESS.md.
 //
 // The contract cites specs/Tallies.antt.
+#![tactic(auto)]
+
 ghost use Rattle.std.specs.Prelude.{◌≡◌, ◌^◌, ◌<◌};
 ghost use Rattle.witness_tally.specs.Tallies.{Few, Small, counted as Tallies·counted};
 
 // What comes of a line: the fewest and the most bytes of a witness, that there is no way, or the number of a refusal.
-#[derive(Drop)]
+#[derive(Clone, Copy)]
 pub enum Outcome {
     Bytes(u64, u64),
     NoWay,
@@ -13,7 +15,7 @@ pub enum Outcome {
 }
 
 // How many lines there are, how many of them have no way and are refused, and the sums of the fewest and of the most bytes of the others.
-#[derive(Drop)]
+#[derive(Clone, Copy)]
 pub struct Tally {
     pub inputs: u64,
     pub none: u64,

@@ -3,6 +3,8 @@
 //
 // Its contracts cite `specs/Floats.antt`, `specs/Bytes.antt`, `specs/Answers.antt` and `specs/Memory.antt`. The laws that crates above
 // cite stand in `proofs/Floats.antt`, `proofs/Bytes.antt`, `proofs/Stores.antt` and `proofs/Packing.antt`.
+#![tactic(auto)]
+
 ghost use Rattle.std.specs.Prelude.{◌≡◌};
 ghost use Rattle.words.specs.Floats.{word_of_float, float_of_word, is_cost};
 ghost use Rattle.words.specs.Bytes.{has_bytes, le_at, put_le};
@@ -51,21 +53,21 @@ pub fn is_cost(x: f64) -> bool
 }
 
 // What reading a u16 finds.
-#[derive(Drop)]
+#[derive(Clone, Copy)]
 pub enum Read16 {
     Found(u16),
     Missing,
 }
 
 // What reading a u32 finds.
-#[derive(Drop)]
+#[derive(Clone, Copy)]
 pub enum Read32 {
     Found(u32),
     Missing,
 }
 
 // What reading a u64 finds.
-#[derive(Drop)]
+#[derive(Clone, Copy)]
 pub enum Read64 {
     Found(u64),
     Missing,
