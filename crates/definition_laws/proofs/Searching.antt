@@ -347,7 +347,7 @@ pub fold_ands-well : {c : Context} {s : Searcher} {ss : List Searcher} → Searc
     SearchesWell c (fold_ands c s ss)
 unfolding fold_ands
 fold_ands-well h nobody = h
-fold_ands-well h (k and ks) = fold_ands-well (and_searcher-well h k) ks
+fold_ands-well {c} {s} h (◌and◌ {x} k ks) = fold_ands-well {s = and_searcher c s x} (and_searcher-well h k) ks
 
 folded_or-keeps : {c : Context} {t : Table} (p : Probs) (k : ℕ) {ss : List Searcher} → All (SearchesWell c) ss → Proper c t →
     Keeps c (Proper c) (folded_or c p k ss t)

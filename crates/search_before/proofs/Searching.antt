@@ -241,7 +241,8 @@ module _ {Stops : ℕ → Type 0} {c : Context} {i j : Insertion} (alike : Alike
       AlikeSearchers Stops (fold_ands_by i c s ss) (fold_ands_by j c s₁ ss₁) (fold_ands c s₂ ss₂)
   unfolding fold_ands_by fold_ands
   fold_ands-alike h nobody = h
-  fold_ands-alike h (k and ks) = fold_ands-alike (and_alike h k) ks
+  fold_ands-alike {s} {s₁} {s₂} h (◌and◌ {s = r} {s₁ = r₁} {s₂ = r₂} k ks) =
+      fold_ands-alike {s = and_searcher_by i c s r} {s₁ = and_searcher_by j c s₁ r₁} {s₂ = and_searcher c s₂ r₂} (and_alike h k) ks
     where
       and_alike : {s s₁ s₂ r r₁ r₂ : Searcher} → AlikeSearchers Stops s s₁ s₂ → AlikeSearchers Stops r r₁ r₂ →
           AlikeSearchers Stops (and_searcher_by i c s r) (and_searcher_by j c s₁ r₁) (and_searcher c s₂ r₂)
