@@ -10,6 +10,7 @@ use lib.Dec.{eqb, ltb}
 use lib.ListN.{length, get_or, set}
 use Rattle.records.specs.Payloads.{Payload, children_of}
 use Rattle.records.specs.RecordForm.{kind_of}
+use Rattle.contexts.specs.Leaves.{After, Older, Sha256, Hash256, Ripemd160, Hash160}
 use Rattle.trees.specs.Fragment.{Fragment, Fragments, end, ◌▹◌, to_list, False, True, PkK, PkH, Lock, Hash}
 use Rattle.trees.specs.Fragment.{Alt, Swap, Check, DupIf, Verify, NonZero, ZeroNotEqual}
 use Rattle.trees.specs.Fragment.{AndB, AndV, OrB, OrD, OrC, OrI, AndOr, Thresh, Multi, MultiA}
@@ -150,16 +151,16 @@ to-fragments (x ∷ xs) = rw (to-fragments xs)
 makers-keep : EachMaker makers
 unfolding children_in
 makers-keep =
-    line (plain-keeps _ refl) (line (plain-keeps _ refl)
-    (line (number-keeps _ λ n. refl) (line (number-keeps _ λ n. refl)
-    (line (number-keeps _ λ n. refl) (line (number-keeps _ λ n. refl)
-    (line (number-keeps _ λ n. refl) (line (number-keeps _ λ n. refl) (line (number-keeps _ λ n. refl) (line (number-keeps _ λ n. refl)
-    (line (one-keeps _ λ x. refl) (line (one-keeps _ λ x. refl) (line (one-keeps _ λ x. refl) (line (one-keeps _ λ x. refl)
-    (line (one-keeps _ λ x. refl) (line (one-keeps _ λ x. refl) (line (one-keeps _ λ x. refl)
-    (line (two-keeps _ λ x y. refl) (line (two-keeps _ λ x y. refl) (line (two-keeps _ λ x y. refl)
-    (line (two-keeps _ λ x y. refl) (line (two-keeps _ λ x y. refl) (line (two-keeps _ λ x y. refl)
-    (line (three-keeps _ λ x y z. refl) (line (record { kept = λ p xs. to-fragments xs })
-    (line (keys-keeps _ λ k ks. refl) (line (keys-keeps _ λ k ks. refl) no_line))))))))))))))))))))))))))
+    line (plain-keeps False refl) (line (plain-keeps True refl)
+    (line (number-keeps PkK λ n. refl) (line (number-keeps PkH λ n. refl)
+    (line (number-keeps (Lock After) λ n. refl) (line (number-keeps (Lock Older) λ n. refl)
+    (line (number-keeps (Hash Sha256) λ n. refl) (line (number-keeps (Hash Hash256) λ n. refl) (line (number-keeps (Hash Ripemd160) λ n. refl) (line (number-keeps (Hash Hash160) λ n. refl)
+    (line (one-keeps Alt λ x. refl) (line (one-keeps Swap λ x. refl) (line (one-keeps Check λ x. refl) (line (one-keeps DupIf λ x. refl)
+    (line (one-keeps Verify λ x. refl) (line (one-keeps NonZero λ x. refl) (line (one-keeps ZeroNotEqual λ x. refl)
+    (line (two-keeps AndB λ x y. refl) (line (two-keeps AndV λ x y. refl) (line (two-keeps OrB λ x y. refl)
+    (line (two-keeps OrD λ x y. refl) (line (two-keeps OrC λ x y. refl) (line (two-keeps OrI λ x y. refl)
+    (line (three-keeps AndOr λ x y z. refl) (line (record { kept = λ p xs. to-fragments xs })
+    (line (keys-keeps Multi λ k ks. refl) (line (keys-keeps MultiA λ k ks. refl) no_line))))))))))))))))))))))))))
 
 made_of : (kind : ℕ) (p : Payload) (xs : List Fragment) {f : Fragment} → fragment_of kind p xs ≡ some f → children_in f ≡ xs
 made_of kind p xs {f} e = by-maker (find kind makers) (found kind makers-keep) e

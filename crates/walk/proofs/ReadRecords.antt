@@ -272,6 +272,10 @@ module _ (tree : List ℕ) where
 pub root-last : (n : ℕ) (slots : Slots Fragment) (fs : List Fragment) {f : Fragment} → Beside slots fs → length fs ≡ n → root_of slots ≡ some f
     → (0 < n) × (get_or fs (n - 1) False ≡ f)
 unfolding root_of
+root-last n [] (y ∷ fs) {f = f} x6 l e = elim x6 [ ]
+root-last n (o ∷ []) [] {f = f} x7 l e = elim x7 [ ]
+root-last n (none ∷ (o ∷ slots)) [] {f = f} x9 l e = elim x9 [ ]
+root-last n (some x ∷ (o ∷ slots)) [] {f = f} x11 l e = elim x11 [ ]
 root-last n [] [] empty l e = absurd (let z : ◌≡◌ {A = ℕ} 0 1 = cc in omega arith)
 root-last n (o ∷ []) (y ∷ []) {f} (pair p empty) l e =
     let z : n - 1 ≡ 0 = omega arith in

@@ -43,16 +43,22 @@ module _ (c : Context) where
   -- ---- so many of a threshold's children
 
   none_yet : (k : ℕ) → Spans c (Exactly k end) (no_child k)
-  none_yet zero = map-spans nothing-at-all (λ w. elim [ only ↦ no-child ]) from
+  none_yet zero = map-spans nothing-at-all to from
     where
+      to : (w : Witness) → Only [] w → Exactly 0 end w
+      to w only = no-child
+
       from : (w : Witness) → Exactly 0 end w → Only [] w
       from w no-child = only
   none_yet (suc k) = no_way (λ w p. elim p [ ])
 
   one-dissatisfied : (x : Fragment) (xs : Fragments) {e f : Extremes} → Spans c (Exactly 0 xs) e → Spans c (Dissatisfies x) f
       → Spans c (Exactly 0 (x ▹ xs)) (e and f)
-  one-dissatisfied x xs s d = map-spans (and-spans s d) (λ w. elim [ joined p q ↦ dissat-child q p ]) from
+  one-dissatisfied x xs s d = map-spans (and-spans s d) to from
     where
+      to : (w : Witness) → Joined (Exactly 0 xs) (Dissatisfies x) w → Exactly 0 (x ▹ xs) w
+      to w (joined p q) = dissat-child q p
+
       from : (w : Witness) → Exactly 0 (x ▹ xs) w → Joined (Exactly 0 xs) (Dissatisfies x) w
       from w (dissat-child q p) = joined p q
 
