@@ -1,4 +1,4 @@
-// Whether a fragment tree from elsewhere stands for a policy: the entry, exported to C. It asks nothing of its caller.
+// Whether a fragment tree from elsewhere stands for a policy: the entry, which claspwillow_c exports to C. It asks nothing of its caller.
 //
 // The entry's promise stands in specs/Accept.antt, and proofs/Determined.antt shows that it determines the outcome. The inner contracts cite
 // specs/Verdicts.antt.
@@ -198,8 +198,7 @@ fn wrong_length(context: u32) -> u32
 }
 
 // Whether a tree from elsewhere stands for a policy: 0, or the number of document 02. Work memory is zero afterwards.
-#[unsafe(no_mangle)]
-pub extern "C" fn claspwillow_accept(
+pub fn claspwillow_accept(
     context: u32,
     policy: &[u8],
     tree: &[u8],
@@ -221,8 +220,7 @@ pub extern "C" fn claspwillow_accept(
 }
 
 // The one length of work memory that the entry takes, in words.
-#[unsafe(no_mangle)]
-pub extern "C" fn claspwillow_accept_work() -> usize
+pub fn claspwillow_accept_work() -> usize
     ensures { result ≡ work_words }
 {
     WORK_WORDS

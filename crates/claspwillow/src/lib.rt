@@ -1,4 +1,4 @@
-// The public entries of Claspwillow, exported to C. None asks anything of its caller.
+// The public entries of Claspwillow, which claspwillow_c exports to C. None asks anything of its caller.
 //
 // Each entry has a promise in specs/Promises.antt, which its contract cites; proofs/Determined.antt shows that any two outcomes that a
 // promise allows are equal, and proofs/CheckLaws.antt what the check tells to the entries above. The parts of compile's entry cite specs/Results.antt.
@@ -65,8 +65,7 @@ fn packed_type(r: Checked) -> u32
 }
 
 // The tree check: document 01's number, and in `ty` the packed type of the root, 0 on a refusal. Work memory is zero afterwards.
-#[unsafe(no_mangle)]
-pub extern "C" fn claspwillow_check(
+pub fn claspwillow_check(
     context: u32,
     tree: &[u8],
     work: &mut [u64],
@@ -80,8 +79,7 @@ pub extern "C" fn claspwillow_check(
 }
 
 // The one length of work memory that the tree check takes, in words.
-#[unsafe(no_mangle)]
-pub extern "C" fn claspwillow_check_work() -> usize
+pub fn claspwillow_check_work() -> usize
     ensures { result ≡ max_records }
 {
     trees::MAX_RECORDS
@@ -170,8 +168,7 @@ fn nodes_of(r: Answer) -> u64
 
 // Compiles a policy: document 01's number, the records of the tree in `out`, and how many bytes they are, the bits of the tree's cost, whether
 // that is never (1, and then the bits are 0) and the nodes used, all four 0 on a refusal. Work memory is zero afterwards.
-#[unsafe(no_mangle)]
-pub extern "C" fn claspwillow_compile(
+pub fn claspwillow_compile(
     context: u32,
     policy: &[u8],
     out: &mut [u8],
@@ -193,8 +190,7 @@ pub extern "C" fn claspwillow_compile(
 }
 
 // The one length of work memory that compile takes, in words.
-#[unsafe(no_mangle)]
-pub extern "C" fn claspwillow_compile_work() -> usize
+pub fn claspwillow_compile_work() -> usize
     ensures { result ≡ work_words }
 {
     WORK_WORDS
@@ -234,8 +230,7 @@ fn choose(context: u32, policy: &[u8], work: &mut [u64]) -> Answer
 
 // Chooses the tree of a policy: document 01's number, how many bytes the tree has, the bits of its cost, whether that is never (1, and then the bits are
 // 0) and the nodes used, all four 0 on a refusal. Work memory holds the tree afterwards, and is zero on a refusal.
-#[unsafe(no_mangle)]
-pub extern "C" fn claspwillow_choose(
+pub fn claspwillow_choose(
     context: u32,
     policy: &[u8],
     work: &mut [u64],
@@ -255,8 +250,7 @@ pub extern "C" fn claspwillow_choose(
 }
 
 // The one length of work memory that the choice takes, in words.
-#[unsafe(no_mangle)]
-pub extern "C" fn claspwillow_choose_work() -> usize
+pub fn claspwillow_choose_work() -> usize
     ensures { result ≡ work_words }
 {
     WORK_WORDS
@@ -300,8 +294,7 @@ fn number_put(r: Put) -> u32
 
 // Writes the tree that work memory holds, whoever filled it: document 01's number, the records of the tree in `out` and how many bytes they are, 0 on a
 // refusal. Work memory is zero afterwards.
-#[unsafe(no_mangle)]
-pub extern "C" fn claspwillow_write(out: &mut [u8], work: &mut [u64], bytes: &mut u64) -> u32
+pub fn claspwillow_write(out: &mut [u8], work: &mut [u64], bytes: &mut u64) -> u32
     ensures { WritePromise out.old work.old result out.new bytes.new work.new }
 {
     let r = put_held(out, work);
@@ -311,8 +304,7 @@ pub extern "C" fn claspwillow_write(out: &mut [u8], work: &mut [u64], bytes: &mu
 }
 
 // The one length of work memory that the writing takes, in words.
-#[unsafe(no_mangle)]
-pub extern "C" fn claspwillow_write_work() -> usize
+pub fn claspwillow_write_work() -> usize
     ensures { result ≡ work_words }
 {
     WORK_WORDS

@@ -1,4 +1,4 @@
-// What changed between two trees, and the entry that lists it, exported to C. It asks nothing of its caller.
+// What changed between two trees, and the entry that lists it, which claspwillow_c exports to C. It asks nothing of its caller.
 //
 // The definition is specs/Numbered.antt and specs/Differences.antt, what holds of it specs/Laws.antt; the entry's promise stands in
 // specs/Differ.antt, and proofs/Determined.antt shows that it determines the outcome. The inner contracts cite specs/Records.antt (two
@@ -257,8 +257,7 @@ fn differ_checked(
 
 // What changed between two trees: the number of document 02, the differences in `out`, eight bytes each, and in `differences` how many there
 // are, 0 on a refusal. Work memory is zero afterwards.
-#[unsafe(no_mangle)]
-pub extern "C" fn claspwillow_differ(
+pub fn claspwillow_differ(
     context: u32,
     left: &[u8],
     right: &[u8],
@@ -281,8 +280,7 @@ pub extern "C" fn claspwillow_differ(
 }
 
 // The one length of work memory that the entry takes, in words.
-#[unsafe(no_mangle)]
-pub extern "C" fn claspwillow_differ_work() -> usize
+pub fn claspwillow_differ_work() -> usize
     ensures { result ≡ work_words }
 {
     WORK_WORDS

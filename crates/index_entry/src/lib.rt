@@ -1,4 +1,4 @@
-// Where each fragment of a tree stands in its script, for a viewer: the entries that build the index of a tree and that look a byte up, exported to C. They
+// Where each fragment of a tree stands in its script, for a viewer: the entries that build the index of a tree and that look a byte up, which claspwillow_c exports to C. They
 // ask nothing of their caller.
 //
 // The entries' promises stand in specs/Index.antt, over the places of the crate `index_places`; proofs/Determined.antt shows that they determine the
@@ -264,8 +264,7 @@ fn wrong_length(context: u32) -> u32
 
 // The index of a tree: the number of document 02, the index in `out`, 16 bytes for each record, and in `bytes` how many it has, 0 on a refusal. Work memory
 // is zero afterwards.
-#[unsafe(no_mangle)]
-pub extern "C" fn claspwillow_index(
+pub fn claspwillow_index(
     context: u32,
     tree: &[u8],
     out: &mut [u8],
@@ -287,8 +286,7 @@ pub extern "C" fn claspwillow_index(
 }
 
 // The one length of work memory that the entry takes, in words.
-#[unsafe(no_mangle)]
-pub extern "C" fn claspwillow_index_work() -> usize
+pub fn claspwillow_index_work() -> usize
     ensures { result ≡ work_words }
 {
     WORK_WORDS
@@ -349,8 +347,7 @@ fn find_checked(context: u32, tree: &[u8], index: &[u8], at: u64, work: &mut [u6
 
 // Looks byte `at` of the script up in the index of a tree: the number of document 02, in `found` whether the script has that byte, and in `it` the
 // innermost fragment that holds it, by its record; zeros where there is none and on a refusal. Work memory is zero afterwards.
-#[unsafe(no_mangle)]
-pub extern "C" fn claspwillow_find(
+pub fn claspwillow_find(
     context: u32,
     tree: &[u8],
     index: &[u8],
@@ -376,8 +373,7 @@ pub extern "C" fn claspwillow_find(
 }
 
 // The one length of work memory that the entry takes, in words.
-#[unsafe(no_mangle)]
-pub extern "C" fn claspwillow_find_work() -> usize
+pub fn claspwillow_find_work() -> usize
     ensures { result ≡ work_words }
 {
     WORK_WORDS

@@ -467,8 +467,7 @@ fn script_in(
 
 // The script of a tree: the number of document 02, the script in `out`, and in `bytes` how many bytes it has, 0 on a refusal. Work memory is zero
 // afterwards.
-#[unsafe(no_mangle)]
-pub extern "C" fn claspwillow_script(
+pub fn claspwillow_script(
     context: u32,
     tree: &[u8],
     keys: &[u8],
@@ -505,8 +504,7 @@ pub extern "C" fn claspwillow_script(
 }
 
 // The one length of work memory that the script's entry takes, in words.
-#[unsafe(no_mangle)]
-pub extern "C" fn claspwillow_script_work() -> usize
+pub fn claspwillow_script_work() -> usize
     ensures { result ≡ max_records }
 {
     trees::MAX_RECORDS

@@ -1,4 +1,4 @@
-// The replay of a log of recorded spends: the entry, exported to C. It asks nothing of its caller.
+// The replay of a log of recorded spends: the entry, which claspwillow_c exports to C. It asks nothing of its caller.
 //
 // The entry's promise stands in `spend_replay`, specs/Replay.antt; proofs/Determined.antt there shows that it determines the outcome, and
 // proofs/Laws.antt that entries don't affect one another. The inner contracts cite specs/Results.antt (reports in an output).
@@ -262,8 +262,7 @@ fn replay(log: &[u8], out: &mut [u8], work: &mut [u64]) -> Given
 
 // Runs every spend of a log again: the number of document 02, in `reports` eight bytes for each entry, and in `entries` how many there are, 0 on
 // a refusal. Work memory is zero afterwards.
-#[unsafe(no_mangle)]
-pub extern "C" fn claspwillow_replay(
+pub fn claspwillow_replay(
     log: &[u8],
     reports: &mut [u8],
     work: &mut [u64],
@@ -279,8 +278,7 @@ pub extern "C" fn claspwillow_replay(
 }
 
 // The one length of work memory that the replay takes, in words.
-#[unsafe(no_mangle)]
-pub extern "C" fn claspwillow_replay_work() -> usize
+pub fn claspwillow_replay_work() -> usize
     ensures { result ≡ replay_words }
 {
     spend_stack::WORDS

@@ -1,4 +1,4 @@
-// What a spend of a fragment tree costs, in whole bytes: the entry, exported to C. It asks nothing of its caller.
+// What a spend of a fragment tree costs, in whole bytes: the entry, which claspwillow_c exports to C. It asks nothing of its caller.
 //
 // The entry's promise stands in specs/Witness.antt, and proofs/Determined.antt shows that it determines the outcome. The inner contracts cite
 // specs/Memory.antt (extremes in work memory) and specs/Records.antt (those of a record from those of its children).
@@ -199,8 +199,7 @@ fn wrong_length(context: u32) -> u32
 
 // What a spend of a tree costs: the number of document 02, in `found` whether there is a way to satisfy the tree, and in `smallest` and
 // `largest` the fewest and the most bytes of a witness that does; zeros on a refusal. Work memory is zero afterwards.
-#[unsafe(no_mangle)]
-pub extern "C" fn claspwillow_witness(
+pub fn claspwillow_witness(
     context: u32,
     tree: &[u8],
     work: &mut [u64],
@@ -227,8 +226,7 @@ pub extern "C" fn claspwillow_witness(
 }
 
 // The one length of work memory that the entry takes, in words.
-#[unsafe(no_mangle)]
-pub extern "C" fn claspwillow_witness_work() -> usize
+pub fn claspwillow_witness_work() -> usize
     ensures { result ≡ work_words }
 {
     WORK_WORDS
