@@ -1,5 +1,5 @@
-// Where each fragment of a tree stands in its script, for a viewer: the entries that build the index of a tree and that look a byte up, which claspwillow_c exports to C. They
-// ask nothing of their caller.
+// Where each fragment of a tree stands in its script, for a viewer: the entries that build the index of a tree and that look a byte up, which
+// claspwillow_c exports to C. They ask nothing of their caller.
 //
 // The entries' promises stand in specs/Index.antt, over the places of the crate `index_places`; proofs/Determined.antt shows that they determine the
 // outcome. The inner contracts cite specs/Memory.antt and specs/Building.antt, over

@@ -1,4 +1,5 @@
-// The entries that move a policy between keys of 32 bits, document 01's, and keys of 64, document 02's, which claspwillow_c exports to C. They ask nothing of their caller.
+// The entries that move a policy between keys of 32 bits, document 01's, and keys of 64, document 02's, which claspwillow_c exports to C. They ask
+// nothing of their caller.
 //
 // Their promise stands in specs/Promises.antt, and proofs/Determined.antt shows that it determines the outcome; what holds of them, and what compile
 // gives for a policy that was moved, stands in specs/Laws.antt. What moving is, is the crate `moving`.

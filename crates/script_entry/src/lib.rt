@@ -1,4 +1,4 @@
-// The script of a fragment tree in bytes, and the entry that gives it, exported to C. It asks nothing of its caller.
+// The script of a fragment tree in bytes, and the entry that gives it, which claspwillow_c exports to C. It asks nothing of its caller.
 //
 // The entry's promise stands in `script_bytes`, specs/ScriptOf.antt; proofs/Determined.antt there shows that it determines the outcome. The
 // inner contracts cite specs/Pieces.antt (a fragment's bytes, piece by piece) and specs/Outcomes.antt; the crate
