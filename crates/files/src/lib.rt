@@ -1,19 +1,40 @@
-// Files that a program reads to their end or writes whole. Each function but `read_all` says on standard error what failed.
+// The words of the command line, and files that a program reads to their end or writes whole, over the handles that `main` is given. What is wrong
+// is said on standard error; a write there that fails is passed over.
 //
-// The contracts cite specs/Rooms.antt. No contract can say what is read from a descriptor or written to it.
+// The contracts cite specs/Rooms.antt. No contract can say which words are given, nor what is read from a file or written to one.
 #![tactic(auto)]
 
 ghost use Rattle.std.specs.Prelude.{length};
+ghost use Rattle.std.specs.Io.{ReadsAtMost};
 ghost use Rattle.files.specs.Rooms.{Within, Held};
 
-use libc::{STDERR_FILENO, STDIN_FILENO};
+use std::env::FillError;
+use std::fs;
+use std::fs::OpenOptions;
+use std::io;
+use std::io::{Read, Write};
+use std::rt::{Env, Files};
+use std::str;
 
-// What reading a file to its end answers: how many bytes it has, that they fill all the room, or that a read failed.
+// The most bytes of a word, which hold any path.
+pub const WORD_ROOM: usize = 4_096;
+
+// The system's numbers of errors that this crate names itself.
+const BAD_DESCRIPTOR: i32 = 9;
+
+const INVALID_ARGUMENT: i32 = 22;
+
+const NAME_TOO_LONG: i32 = 36;
+
+// The most bytes that the system's words for an error take, with its number behind them.
+const REASON_ROOM: usize = 280;
+
+// What reading a file to its end answers: how many bytes it has, that they fill all the room, or why a read failed.
 #[derive(Clone, Copy)]
 pub enum Reading {
     Whole(usize),
     TooLong,
-    Failed,
+    Failed(io::Error),
 }
 
 // What loading a file answers: how many bytes it has, or that the reason why there are none has been said.
@@ -24,111 +45,52 @@ pub enum Loaded {
 }
 
 // Reads to the end of a file. A file that fills the room is too long: whether anything is left of it is not asked.
-pub fn read_all(fd: i32, room: &mut [u8]) -> Reading
+pub fn read_all<S: Read>(source: &mut S, room: &mut [u8]) -> Reading
     ensures { Within (length room.new) result }
 {
     let mut done = 0;
     while done < room.len() {
-        let got = libc::read(fd, &mut room[done..]);
-        if got < 0 {
-            return Reading::Failed;
+        match source.read(&mut room[done..]) {
+            Ok(0) => return Reading::Whole(done),
+            Ok(n) => done += n,
+            Err(e) => return Reading::Failed(e),
         }
-        let n = io::count(got, &room[done..]);
-        if n == 0 {
-            return Reading::Whole(done);
-        }
-        done += n;
     }
     Reading::TooLong
 }
 
-// Says what is wrong with the file of a path.
-fn say(path: &[u8], wrong: &[u8]) {
-    io::write_all(STDERR_FILENO, path);
-    io::write_all(STDERR_FILENO, wrong);
+// Says something on standard error.
+pub fn say(rt: &impl Eprint, text: &str) {
+    let _ = rt.eprint(text);
 }
 
-// Reads the whole file that is open and closes it. The path is its name where something is said of it, and `too_long` is what is said where it
-// fills the room.
-fn load_open(fd: i32, path: &[u8], too_long: &[u8], room: &mut [u8]) -> Loaded
-    ensures { Held (length room.new) result }
+// The system's words for an error, without its number.
+fn reason<'a>(error: io::Error, room: &'a mut [u8; REASON_ROOM]) -> &'a str {
+    let mut free = &mut room[..];
+    let _ = write!(free, "{error}");
+    let used = REASON_ROOM - free.len();
+    let text = str::from_utf8(&room[..used]).unwrap_or("");
+    match text.split_once(" (os error ") {
+        Some((words, _)) => words,
+        None => text,
+    }
+}
+
+// Says a line on standard error: what failed, a colon and the system's words for it.
+pub fn fail(rt: &impl Eprint, what: &str, error: io::Error) {
+    let mut room = [0u8; REASON_ROOM];
+    let words = reason(error, &mut room);
+    let _ = eprintln!(rt; "{what}: {words}");
+}
+
+// Puts word i of the command line at the start of a room and answers how long it is; word 0 is the program's own name. A word that is missing and
+// one that is longer than the room are errors.
+pub fn word(rt: &impl Env, i: usize, room: &mut [u8]) -> io::Result<usize>
+    ensures { ReadsAtMost result room.new }
 {
-    match read_all(fd, room) {
-        Reading::Whole(n) => {
-            libc::close(fd);
-            Loaded::Bytes(n)
-        }
-        Reading::TooLong => {
-            say(path, too_long);
-            Loaded::Nothing
-        }
-        Reading::Failed => {
-            os::fail(path);
-            Loaded::Nothing
-        }
+    match rt.arg(i, room) {
+        Ok(n) => Ok(n),
+        Err(FillError::TooLong) => Err(io::Error::from_raw_os_error(NAME_TOO_LONG)),
+        Err(FillError::NotPresent) => Err(io::Error::from_raw_os_error(INVALID_ARGUMENT)),
     }
-}
-
-// Opens a file to read. Where `dash` holds the path `-` stands for standard input.
-fn open_source(path: &[u8], dash: bool) -> i32 {
-    if dash {
-        if check::same(path, b"-") {
-            return STDIN_FILENO;
-        }
-    }
-    os::open_read(path)
-}
-
-// Reads the whole file of a path.
-fn load(path: &[u8], dash: bool, too_long: &[u8], room: &mut [u8]) -> Loaded
-    ensures { Held (length room.new) result }
-{
-    let fd = open_source(path, dash);
-    if fd < 0 {
-        os::fail(path);
-        return Loaded::Nothing;
-    }
-    load_open(fd, path, too_long, room)
-}
-
-// Reads the whole file that word i of the command line names. `what` is what is said to have failed where that is no path.
-pub fn load_word(i: usize, what: &[u8], dash: bool, too_long: &[u8], room: &mut [u8]) -> Loaded
-    ensures { Held (length room.new) result }
-{
-    let mut path = io::buffer();
-    let n = os::arg(i, &mut path);
-    if os::errno() != 0 {
-        os::fail(what);
-        return Loaded::Nothing;
-    }
-    load(&path[..n], dash, too_long, room)
-}
-
-// Writes bytes to a new file. A file that exists is left as it is; one that can't be written whole is removed.
-fn save(path: &[u8], bytes: &[u8]) {
-    let fd = os::create(path);
-    if fd < 0 {
-        os::fail(path);
-        return;
-    }
-    if io::write_all(fd, bytes) {
-        if libc::close(fd) < 0 {
-            os::fail(path);
-        }
-        return;
-    }
-    os::fail(path);
-    libc::close(fd);
-    os::unlink(path);
-}
-
-// Writes bytes to the new file that word i of the command line names. `what` is what is said to have failed where that is no path.
-pub fn save_word(i: usize, what: &[u8], bytes: &[u8]) {
-    let mut path = io::buffer();
-    let n = os::arg(i, &mut path);
-    if os::errno() != 0 {
-        os::fail(what);
-        return;
-    }
-    save(&path[..n], bytes);
 }

@@ -1,0 +1,4 @@
+use Rattle.correctness.proofs.Correctness.cast_swap.Goals as goal
+
+pub returns : goal.returns
+returns c = simp (c.ok_if.ensures, c.is_one.ensures, c.is_b.ensures)

@@ -1,0 +1,6 @@
+use Rattle.costs.specs.Rules.{or_d}
+use Rattle.costs.proofs.Cost.or_d.Goals as goal
+
+pub returns-in-Some : goal.returns-in-Some
+unfolding or_d
+returns-in-Some c = simp (c.after-dissat_cost.ensures, c.in-Some.is)

@@ -1,0 +1,25 @@
+use Rattle.std.proofs.Common.{rules}
+use Rattle.std.proofs.Common.{arith, rules}
+use Rattle.costs.proofs.Sums.{starts, goes_on, ends}
+use Rattle.costs.proofs.Cost.sum.Goals as goal
+
+pub loop-i-init : goal.loop-i-init
+loop-i-init c = starts _ _ c.args.t2 c.children-count.ensures (search rules)
+
+pub offset_bounds-subs-i : goal.offset_bounds-subs-i
+offset_bounds-subs-i c = omega arith
+
+pub bounds-subs-i : goal.bounds-subs-i
+bounds-subs-i c = omega arith
+
+pub overflow_add-i : goal.overflow_add-i
+overflow_add-i c = omega arith
+
+pub loop-i-smaller : goal.loop-i-smaller
+loop-i-smaller c = omega arith
+
+pub loop-i-preserved : goal.loop-i-preserved
+loop-i-preserved c = goes_on _ _ c.loop-i.invariant (omega arith) (omega arith) c.plus-sum.ensures
+
+pub returns : goal.returns
+returns c = ends c.loop-i.invariant (omega arith)

@@ -1,0 +1,14 @@
+-- `index_memory::subtree_at` meets its contract. Assumes nothing.
+use Prim.Native.Nat.{◌+◌}
+use lib.ListN.{get_or}
+use Rattle.index_memory.proofs.Words.{free-is, taken_is}
+use Rattle.index_memory.specs.Memory.{subtree_in}
+use Rattle.index_memory.proofs.subtree_at.Goals as goal
+
+pub returns-in-Free : goal.returns-in-Free
+unfolding subtree_in
+returns-in-Free c = free-is (get_or c.args.work.now (12288 + c.args.i) 0) c.slot_of.ensures c.in-Free.is
+
+pub returns-in-Taken : goal.returns-in-Taken
+unfolding subtree_in
+returns-in-Taken c = taken_is (get_or c.args.work.now (12288 + c.args.i) 0) c.slot_of.ensures c.in-Taken.is c.of_false.ensures

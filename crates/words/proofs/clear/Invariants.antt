@@ -1,0 +1,12 @@
+-- `words::clear` meets its contract: after i turns the first i words are zero and the others as they were. Assumes nothing.
+use mathlib.Core.Path.{◌≡◌}
+use mathlib.Core.List.{◌++◌}
+use Prim.Native.Nat.{◌-◌, ◌≤◌}
+use lib.ListN.{length, drop, replicate}
+use Rattle.words.proofs.clear.Given as goal
+
+abbrev pub invariant-loop-i : goal.invariant-loop-i
+invariant-loop-i l = (l.work ≡ replicate l.i 0 ++ drop l.i l.initial.work) × (length l.work ≡ length l.initial.work) × (l.i ≤ length l.initial.work)
+
+abbrev pub decreases-loop-i : goal.decreases-loop-i
+decreases-loop-i l = length l.initial.work - l.i

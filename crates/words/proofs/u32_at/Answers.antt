@@ -1,0 +1,74 @@
+-- `words::u32_at` meets its contract: where all four bytes are there, they write the number. Assumes nothing.
+use mathlib.Core.Bool.{true}
+use mathlib.Core.Path.{◌≡◌, sym, ap, ◌∙◌}
+use Prim.Native.Nat.{◌+◌, ◌≤◌}
+use native.Mathlib.Omega.{arith}
+use lib.ListN.{length}
+use Rattle.words.specs.Answers.{read32}
+use Rattle.words.specs.Bytes.{has_bytes}
+use Rattle.words.proofs.Bytes.{room, found-4, missing}
+use Rattle.words.proofs.u32_at.Goals as goal
+
+-- the bytes are there
+there : (c : goal.Then-has_bytes) → has_bytes 4 c.args.s.now c.args.at ≡ true
+there c = sym c.has_bytes.ensures ∙ c.if-has_bytes.true
+
+within : (c : goal.Then-has_bytes) → c.args.at + 4 ≤ length c.args.s.now
+within c = room 4 c.args.s.now c.args.at (there c)
+
+pub bounds-s-at : goal.bounds-s-at
+bounds-s-at c = omega (arith, within c.before)
+
+pub overflow_cast-b0 : goal.overflow_cast-b0
+overflow_cast-b0 c = omega (arith, c.shared_slice_known-then-has_bytes-1.given c.args.at)
+
+pub overflow_add-b1 : goal.overflow_add-b1
+overflow_add-b1 c = omega (arith, within c.before)
+
+pub bounds-s-at-then-has_bytes : goal.bounds-s-at-then-has_bytes
+bounds-s-at-then-has_bytes c = omega (arith, within c.before.before)
+
+pub overflow_cast-b1 : goal.overflow_cast-b1
+overflow_cast-b1 c = omega (arith, c.shared_slice_known-then-has_bytes-2-1.given (c.args.at + 1))
+
+pub overflow_add-b2 : goal.overflow_add-b2
+overflow_add-b2 c = omega (arith, within c.before.before)
+
+pub bounds-s-at-then-has_bytes-2 : goal.bounds-s-at-then-has_bytes-2
+bounds-s-at-then-has_bytes-2 c = omega (arith, within c.before.before.before)
+
+pub overflow_cast-b2 : goal.overflow_cast-b2
+overflow_cast-b2 c = omega (arith, c.shared_slice_known-then-has_bytes-3-1.given (c.args.at + 2))
+
+pub overflow_add-b3 : goal.overflow_add-b3
+overflow_add-b3 c = omega (arith, within c.before.before.before)
+
+pub bounds-s-at-then-has_bytes-3 : goal.bounds-s-at-then-has_bytes-3
+bounds-s-at-then-has_bytes-3 c = omega (arith, within c.before.before.before.before)
+
+pub overflow_cast-b3 : goal.overflow_cast-b3
+overflow_cast-b3 c = omega (arith, c.shared_slice_known-then-has_bytes-4-1.given (c.args.at + 3))
+
+pub overflow_mul-result : goal.overflow_mul-result
+overflow_mul-result c = omega (arith, c.shared_slice_known-then-has_bytes-4-1.given c.args.at, c.shared_slice_known-then-has_bytes-4-1.given (c.args.at + 1), c.shared_slice_known-then-has_bytes-4-1.given (c.args.at + 2), c.shared_slice_known-then-has_bytes-4-1.given (c.args.at + 3))
+
+pub overflow_add-result : goal.overflow_add-result
+overflow_add-result c = omega (arith, c.shared_slice_known-then-has_bytes-4-1.given c.args.at, c.shared_slice_known-then-has_bytes-4-1.given (c.args.at + 1), c.shared_slice_known-then-has_bytes-4-1.given (c.args.at + 2), c.shared_slice_known-then-has_bytes-4-1.given (c.args.at + 3))
+
+pub overflow_mul-result-then-has_bytes : goal.overflow_mul-result-then-has_bytes
+overflow_mul-result-then-has_bytes c = omega (arith, c.shared_slice_known-then-has_bytes-4-1.given c.args.at, c.shared_slice_known-then-has_bytes-4-1.given (c.args.at + 1), c.shared_slice_known-then-has_bytes-4-1.given (c.args.at + 2), c.shared_slice_known-then-has_bytes-4-1.given (c.args.at + 3))
+
+pub overflow_add-result-then-has_bytes : goal.overflow_add-result-then-has_bytes
+overflow_add-result-then-has_bytes c = omega (arith, c.shared_slice_known-then-has_bytes-4-1.given c.args.at, c.shared_slice_known-then-has_bytes-4-1.given (c.args.at + 1), c.shared_slice_known-then-has_bytes-4-1.given (c.args.at + 2), c.shared_slice_known-then-has_bytes-4-1.given (c.args.at + 3))
+
+pub overflow_mul-result-then-has_bytes-2 : goal.overflow_mul-result-then-has_bytes-2
+overflow_mul-result-then-has_bytes-2 c = omega (arith, c.shared_slice_known-then-has_bytes-4-1.given c.args.at, c.shared_slice_known-then-has_bytes-4-1.given (c.args.at + 1), c.shared_slice_known-then-has_bytes-4-1.given (c.args.at + 2), c.shared_slice_known-then-has_bytes-4-1.given (c.args.at + 3))
+
+pub overflow_add-result-then-has_bytes-2 : goal.overflow_add-result-then-has_bytes-2
+overflow_add-result-then-has_bytes-2 c = omega (arith, c.shared_slice_known-then-has_bytes-4-1.given c.args.at, c.shared_slice_known-then-has_bytes-4-1.given (c.args.at + 1), c.shared_slice_known-then-has_bytes-4-1.given (c.args.at + 2), c.shared_slice_known-then-has_bytes-4-1.given (c.args.at + 3))
+
+pub returns-then-has_bytes : goal.returns-then-has_bytes
+returns-then-has_bytes c = sym (ap read32 (found-4 c.args.s.now c.args.at (there c.before.before.before.before)))
+
+pub returns : goal.returns
+returns c = sym (ap read32 (missing 4 c.args.s.now c.args.at (sym c.has_bytes.ensures ∙ c.if-has_bytes.false)))
