@@ -8,7 +8,7 @@ use Rattle.files.specs.declared.Reading.TheVariants.{Whole, TooLong, Failed}
 abbrev pub Within : ℕ → Reading → Type 0
 Within room (Whole n) = n < room
 Within room TooLong = Unit
-Within room Failed = Unit
+Within room (Failed e) = Unit
 
 -- the same of loading it
 abbrev pub Held : ℕ → Loaded → Type 0

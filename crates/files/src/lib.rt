@@ -12,7 +12,7 @@ use std::env::FillError;
 use std::fs;
 use std::fs::OpenOptions;
 use std::io;
-use std::io::{Read, Write};
+use std::io::{ErrorKind, Read, Write};
 use std::rt::{Env, Files};
 use std::str;
 
@@ -68,7 +68,7 @@ pub fn say(rt: &impl Eprint, text: &str) {
 fn reason<'a>(error: io::Error, room: &'a mut [u8; REASON_ROOM]) -> &'a str {
     let mut free = &mut room[..];
     let _ = write!(free, "{error}");
-    let used = REASON_ROOM - free.len();
+    let used = REASON_ROOM.saturating_sub(free.len());
     let text = str::from_utf8(&room[..used]).unwrap_or("");
     match text.split_once(" (os error ") {
         Some((words, _)) => words,
@@ -93,4 +93,166 @@ pub fn word(rt: &impl Env, i: usize, room: &mut [u8]) -> io::Result<usize>
         Err(FillError::TooLong) => Err(io::Error::from_raw_os_error(NAME_TOO_LONG)),
         Err(FillError::NotPresent) => Err(io::Error::from_raw_os_error(INVALID_ARGUMENT)),
     }
+}
+
+// The text of a path.
+pub fn path_text(path: &[u8]) -> io::Result<&str> {
+    match str::from_utf8(path) {
+        Ok(text) => Ok(text),
+        Err(_) => Err(io::Error::new(
+            ErrorKind::InvalidFilename,
+            "not text in UTF-8",
+        )),
+    }
+}
+
+// Opens the file of a path to read. A path with a byte 0 is no path.
+pub fn open<R: Files>(rt: &R, path: &str) -> io::Result<R::File> {
+    if path.contains('\0') {
+        return Err(io::Error::from_raw_os_error(INVALID_ARGUMENT));
+    }
+    fs::open(rt, path)
+}
+
+// The path that word i of the command line names.
+fn path_word<'a>(rt: &impl Env, i: usize, room: &'a mut [u8; WORD_ROOM]) -> io::Result<&'a str> {
+    let n = word(rt, i, room)?;
+    path_text(&room[..n])
+}
+
+// Whether word i is a dash alone.
+fn is_dash(rt: &impl Env, i: usize) -> bool {
+    let mut letters = [0u8; WORD_ROOM];
+    match path_word(rt, i, &mut letters) {
+        Ok(path) => path == "-",
+        Err(_) => false,
+    }
+}
+
+// Whether a word before word i, and after the program's name, is a dash alone: standard input has been read to its end for it, and serves once.
+fn is_dash_before(rt: &impl Env, i: usize) -> bool {
+    let mut before = false;
+    for j in 1..i {
+        if is_dash(rt, j) {
+            before = true;
+        }
+    }
+    before
+}
+
+// Reads the whole file that is open. The path is its name where something is said of it, and `too_long` is what is said where it fills the room.
+fn load_open<S: Read>(
+    rt: &impl Eprint,
+    source: &mut S,
+    path: &str,
+    too_long: &str,
+    room: &mut [u8],
+) -> Loaded
+    ensures { Held (length room.new) result }
+{
+    match read_all(source, room) {
+        Reading::Whole(n) => Loaded::Bytes(n),
+        Reading::TooLong => {
+            say(rt, path);
+            say(rt, too_long);
+            Loaded::Nothing
+        }
+        Reading::Failed(e) => {
+            fail(rt, path, e);
+            Loaded::Nothing
+        }
+    }
+}
+
+// Reads the whole of standard input, for which word i stands.
+fn load_input<R: Env + Input + Eprint>(
+    rt: &R,
+    i: usize,
+    path: &str,
+    too_long: &str,
+    room: &mut [u8],
+) -> Loaded
+    ensures { Held (length room.new) result }
+{
+    if is_dash_before(rt, i) {
+        fail(rt, path, io::Error::from_raw_os_error(BAD_DESCRIPTOR));
+        return Loaded::Nothing;
+    }
+    let mut source = rt.reader();
+    load_open(rt, &mut source, path, too_long, room)
+}
+
+// Reads the whole file of a path.
+fn load_path<R: Files + Eprint>(rt: &R, path: &str, too_long: &str, room: &mut [u8]) -> Loaded
+    ensures { Held (length room.new) result }
+{
+    match open(rt, path) {
+        Ok(mut source) => load_open(rt, &mut source, path, too_long, room),
+        Err(e) => {
+            fail(rt, path, e);
+            Loaded::Nothing
+        }
+    }
+}
+
+// Reads the whole file that word i of the command line names. `what` is what is said to have failed where that is no path. Where `dash` holds the
+// path `-` stands for standard input.
+pub fn load_word<R: Env + Files + Input + Eprint>(
+    rt: &R,
+    i: usize,
+    what: &str,
+    dash: bool,
+    too_long: &str,
+    room: &mut [u8],
+) -> Loaded
+    ensures { Held (length room.new) result }
+{
+    let mut letters = [0u8; WORD_ROOM];
+    match path_word(rt, i, &mut letters) {
+        Ok(path) => {
+            if dash && path == "-" {
+                load_input(rt, i, path, too_long, room)
+            } else {
+                load_path(rt, path, too_long, room)
+            }
+        }
+        Err(e) => {
+            fail(rt, what, e);
+            Loaded::Nothing
+        }
+    }
+}
+
+// Writes bytes to a new file. A file that exists is left as it is; one that can't be written whole is removed.
+fn save<R: Files + Eprint>(rt: &R, path: &str, bytes: &[u8]) {
+    let made = OpenOptions::new().write(true).create_new(true).open(rt, path);
+    match made {
+        Ok(mut file) => {
+            if let Err(e) = file.write_all(bytes) {
+                fail(rt, path, e);
+                let _ = fs::remove_file(rt, path);
+            }
+        }
+        Err(e) => fail(rt, path, e),
+    }
+}
+
+// Writes bytes to the new file that word i of the command line names. `what` is what is said to have failed where that is no path.
+pub fn save_word<R: Env + Files + Eprint>(rt: &R, i: usize, what: &str, bytes: &[u8]) {
+    let mut letters = [0u8; WORD_ROOM];
+    match path_word(rt, i, &mut letters) {
+        Ok(path) => save(rt, path, bytes),
+        Err(e) => fail(rt, what, e),
+    }
+}
+
+// How many words the program was started with, its own name among them.
+pub fn word_count(rt: &impl Env) -> usize {
+    let mut none = [0u8; 0];
+    for i in 0..usize::MAX {
+        if let Err(FillError::NotPresent) = rt.arg(i, &mut none) {
+            return i;
+        }
+    }
+    usize::MAX
 }
