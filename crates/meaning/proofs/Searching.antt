@@ -361,7 +361,7 @@ module _ (a : Assignment) (c : Context) where
   fold_ands-means : {s : Searcher} {ss : List Searcher} → SearchesMean s → All SearchesMean ss → SearchesMean (fold_ands c s ss)
   unfolding fold_ands
   fold_ands-means h laws.nobody = h
-  fold_ands-means h (k and ks) = fold_ands-means (and_searcher-means h k) ks
+  fold_ands-means {s} h (◌and◌ {x} k ks) = fold_ands-means {s = and_searcher c s x} (and_searcher-means h k) ks
 
   folded-value : (s : Searcher) (ss : List Searcher) → value (fold_ands c s ss) ≡ value s && all_true (values ss)
   unfolding fold_ands values all_true policy_means

@@ -3,8 +3,7 @@
 // The contracts cite specs/Names.antt, specs/Letters.antt and specs/Text.antt.
 #![tactic(auto)]
 
-ghost use Rattle.std.specs.Prelude.{cond, ◌≡◌, length, take};
-ghost use Rattle.io.specs.Counts.{IsPrefixLen};
+ghost use Rattle.std.specs.Prelude.{cond, ◌≡◌, ◌≤◌, length, take};
 ghost use Rattle.names.specs.Text.{space, in_places, without_spaces};
 ghost use Rattle.names.specs.Names.{kinds, answers, name_in};
 ghost use Rattle.names.specs.Letters.{base_letter, correctness_places, malleability_places};
@@ -132,7 +131,7 @@ pub fn malleability_letters(m: Malleability) -> [u8; 4]
 
 // Moves what stands in the places that are no spaces to the front, and answers how many there are.
 pub fn close_up(text: &mut [u8]) -> usize
-    ensures prefix_len { IsPrefixLen result text.new }
+    ensures prefix_len { result ≤ length text.new }
     ensures text_after { take result text.new ≡ without_spaces text.old }
 {
     let mut n = 0;

@@ -70,7 +70,7 @@ tells w log before m g on h b p c t alt =
     ∙ ap (told (g (stack_of log alt m.alt))) p.are
     ∙ told-first (g (stack_of log alt m.alt)) b (left_of log (after_one log m))
 
-module _ {w : Word} {log before : List ℕ} {m r : Machine} {g : Stack → Bool → Result} (on : is_going m ≡ true) (f : Fits log before m)
+module _ {w : Word} {log before : List ℕ} {m r : Machine} (g : Stack → Bool → Result) (on : is_going m ≡ true) (f : Fits log before m)
     (h : TellsOn w log before m g) where
   -- neither yes nor no
   pub tells-stuck : {s : Said} → s ≡ said_of (left_of log m) → s ≡ Said.Neither → r ≡ with_status m Status.Stuck → Does w log before before m r
@@ -131,7 +131,7 @@ module _ {log before : List ℕ} {m r : Machine} {n : ℕ} (f : Fits log before 
   unfolding run_of
   over-stuck d e er =
       record {
-        says = λ g alt. rw er (sym (told-neither _ (left_of log m) (sym d ∙ e)));
+        says = λ g alt. rw er (sym (told-neither (λ (b : Bool). done (element b ∷ stack_of log before n) (stack_of log alt m.alt)) (left_of log m) (sym d ∙ e)));
         fits = rw er (record { few = f.few; room = f.room; asks = record { ends = f.asks.ends } });
         same = refl;
       }

@@ -47,13 +47,6 @@ overflow_add-k c = omega arith
 pub loop-k-smaller : goal.loop-k-smaller
 loop-k-smaller c = omega arith
 
-pub loop-k-preserved : goal.loop-k-preserved
-loop-k-preserved c = (
-      omega arith,
-      simp length-set c.loop-k.invariant.1,
-      written-more c.loop-k.row c.args.t2 c.loop-k.k c.four.result (omega (arith, c.loop-k.invariant.1)) c.four.ensures c.loop-k.invariant.2,
-    )
-
 pub shape_of-row : goal.shape_of-row
 shape_of-row c = c.loop-k.invariant.1
 

@@ -29,16 +29,5 @@ overflow_add-j c = omega arith
 pub loop-j-smaller : goal.loop-j-smaller
 loop-j-smaller c = omega arith
 
-pub loop-j-preserved : goal.loop-j-preserved
-loop-j-preserved c = let long : length c.args.t3 ≡ 16 = search rules in (
-      store-next c.args.pol.now c.loop-j.pol c.args.t3 (40 * c.args.i + 6) c.loop-j.j c.loop-j.invariant.0 (omega (arith, long)),
-      omega arith,
-      simp length-set c.loop-j.invariant.2,
-    )
-
 pub shape_of-pol : goal.shape_of-pol
 shape_of-pol c = c.loop-j.invariant.2
-
-pub returns : goal.returns
-returns c = let long : length c.args.t3 ≡ 16 = search rules in
-    store-all c.args.pol.now c.loop-j.pol c.args.t3 c.args.i c.loop-j.j c.loop-j.invariant.0 (omega (arith, long))

@@ -7,33 +7,6 @@ use Rattle.records.proofs.Arities.{past}
 use Rattle.trees.proofs.ByKind.{rule-none, rule-one, rule-two, rule-three, rule-all, rule-multi, rule-multi-a}
 use Rattle.trees.proofs.rule_of.Goals as goal
 
-pub returns-in-55 : goal.returns-in-55
-returns-in-55 c = let len : length c.args.t5 ≡ 16 = search rules in
-    rule-three c.args.kind c.args.count c.args.k c.args.context c.args.t5 _ len c.in-55.is c.and_or.ensures
-
-pub returns-in-56 : goal.returns-in-56
-returns-in-56 c = rule-all c.args.kind c.args.count c.args.k c.args.context c.args.t5 c.in-56.is c.requires.2 c.threshold.ensures
-
-pub returns-in-57 : goal.returns-in-57
-returns-in-57 c = rule-multi c.args.kind c.args.count c.args.k c.args.context c.args.t5 c.in-57.is c.multi_type.ensures
-
-pub returns-in-58 : goal.returns-in-58
-returns-in-58 c = rule-multi-a c.args.kind c.args.count c.args.k c.args.context c.args.t5 c.in-58.is c.multi_a_type.ensures
-
-pub returns-in-32-to-41 : goal.returns-in-32-to-41
-returns-in-32-to-41 c = rule-none c.args.kind c.args.count c.args.k c.args.context c.args.t5 c.in-32-to-41.if-kind-lt42-own.true
-    (c.leaf_type.ensures c.args.context c.args.k)
-
-pub returns-in-42-to-48 : goal.returns-in-42-to-48
-returns-in-42-to-48 c = let len : length c.args.t5 ≡ 16 = search rules in
-    rule-one c.args.kind c.args.count c.args.k c.args.context c.args.t5 _ len (omega arith) (omega arith)
-    (c.cast_type.ensures c.args.k)
-
-pub returns-in-49-to-54 : goal.returns-in-49-to-54
-returns-in-49-to-54 c = let len : length c.args.t5 ≡ 16 = search rules in
-    rule-two c.args.kind c.args.count c.args.k c.args.context c.args.t5 _ len (omega arith) (omega arith)
-    (c.pair_type.ensures c.args.context c.args.k)
-
 pub returns-in_default : goal.returns-in_default
 returns-in_default c = absurd (omega arith)
 

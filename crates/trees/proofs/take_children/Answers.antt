@@ -10,15 +10,6 @@ use Rattle.trees.specs.WorkMemory.{slots_in}
 use Rattle.trees.proofs.InMemory.{free-slot, taken-slot, children-start, children-more, children-stop, children-end}
 use Rattle.trees.proofs.take_children.Goals as goal
 
-pub loop-i-init : goal.loop-i-init
-loop-i-init c = (
-      children-start c.args.t3 c.args.n _ [] (slots_in c.args.work.now c.args.read) refl,
-      omega arith,
-      search rules,
-      refl,
-      search rules,
-    )
-
 pub offset_bounds-children-i : goal.offset_bounds-children-i
 offset_bounds-children-i c = omega arith
 
@@ -27,14 +18,6 @@ bounds-children-i c = omega arith
 
 pub take_child-requires : goal.take_child-requires
 take_child-requires c = omega (arith, c.loop-i.invariant.3, c.requires.0)
-
-pub returns-in_default : goal.returns-in_default
-returns-in_default c = let len : length c.args.t3 ≡ 16 = c.loop-i.invariant.4 in record {
-      read_value = children-stop c.args.t3 c.args.n _ c.loop-i.subtrees c.loop-i.i (slots_in c.loop-i.work c.args.read) c.loop-i-test.true (omega arith)
-          (taken-slot (get_or (slots_in c.loop-i.work c.args.read) (get_or c.args.t3 c.loop-i.i 0) none) c.take_child.ensures.value c.in_default.is)
-          c.loop-i.invariant.0;
-      work_len_unchanged = c.take_child.ensures.read_after.1 ∙ c.loop-i.invariant.3;
-    }
 
 pub offset_bounds-subtrees-i : goal.offset_bounds-subtrees-i
 offset_bounds-subtrees-i c = omega arith
@@ -47,21 +30,3 @@ overflow_add-i c = omega arith
 
 pub loop-i-smaller : goal.loop-i-smaller
 loop-i-smaller c = omega arith
-
-pub loop-i-preserved : goal.loop-i-preserved
-loop-i-preserved c = let len : length c.args.t3 ≡ 16 = c.loop-i.invariant.4 in (
-      children-more c.args.t3 c.args.n _ c.loop-i.subtrees c.loop-i.i (slots_in c.loop-i.work c.args.read) _ _ c.loop-i-test.true
-          (omega arith) (omega (arith, c.loop-i.invariant.2))
-          (free-slot (get_or (slots_in c.loop-i.work c.args.read) (get_or c.args.t3 c.loop-i.i 0) none) c.take_child.ensures.value c.in-Free.is)
-          c.take_child.ensures.read_after.0 c.loop-i.invariant.0,
-      omega arith,
-      length-set c.loop-i.subtrees c.loop-i.i _ ∙ c.loop-i.invariant.2,
-      c.take_child.ensures.read_after.1 ∙ c.loop-i.invariant.3,
-      len,
-    )
-
-pub returns : goal.returns
-returns c = record {
-      read_value = children-end c.args.t3 c.args.n _ c.loop-i.subtrees c.loop-i.i (slots_in c.loop-i.work c.args.read) (omega (arith, c.loop-i.invariant.1)) c.loop-i.invariant.0;
-      work_len_unchanged = c.loop-i.invariant.3;
-    }

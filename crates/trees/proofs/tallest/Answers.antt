@@ -6,9 +6,6 @@ use lib.ListN.{length}
 use Rattle.trees.proofs.Subtrees.{tall-start, tall-next, tall-end}
 use Rattle.trees.proofs.tallest.Goals as goal
 
-pub loop-i-init : goal.loop-i-init
-loop-i-init c = (omega arith, tall-start c.args.t1 c.args.n)
-
 pub offset_bounds-subtrees-i : goal.offset_bounds-subtrees-i
 offset_bounds-subtrees-i c = omega arith
 
@@ -20,13 +17,3 @@ overflow_add-i c = omega arith
 
 pub loop-i-smaller : goal.loop-i-smaller
 loop-i-smaller c = omega arith
-
-pub loop-i-preserved : goal.loop-i-preserved
-loop-i-preserved c = let length-16 : length c.args.t1 ≡ 16 = search rules in (
-      omega arith,
-      tall-next c.args.t1 c.args.n _ c.loop-i.tall c.greater-tall.result c.loop-i.i (omega arith) (omega (arith, length-16))
-          c.greater-tall.ensures c.loop-i.invariant.1,
-    )
-
-pub returns : goal.returns
-returns c = tall-end c.args.t1 c.args.n c.loop-i.tall c.loop-i.i (omega arith) c.loop-i.invariant.1

@@ -26,16 +26,3 @@ overflow_add-i c = omega arith
 
 pub loop-i-smaller : goal.loop-i-smaller
 loop-i-smaller c = omega arith
-
-pub loop-i-preserved : goal.loop-i-preserved
-loop-i-preserved c = let length-16 : length c.args.t1 ≡ 16 = search rules in (
-      omega arith,
-      length-set c.loop-i.types c.loop-i.i _ ∙ c.loop-i.invariant.1,
-      types-next c.args.t1 _ c.loop-i.types c.loop-i.i (omega (arith, length-16)) (omega (arith, c.loop-i.invariant.1))
-          c.loop-i.invariant.2,
-    )
-
-pub returns : goal.returns
-returns c = let length-16 : length c.args.t1 ≡ 16 = search rules in
-    types-end c.args.t1 c.loop-i.types c.loop-i.i (omega (arith, c.loop-i.invariant.1)) (omega (arith, length-16))
-    c.loop-i.invariant.2

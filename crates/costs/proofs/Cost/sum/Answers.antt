@@ -3,9 +3,6 @@ use Rattle.std.proofs.Common.{arith, rules}
 use Rattle.costs.proofs.Sums.{starts, goes_on, ends}
 use Rattle.costs.proofs.Cost.sum.Goals as goal
 
-pub loop-i-init : goal.loop-i-init
-loop-i-init c = starts _ _ c.args.t2 c.children-count.ensures (search rules)
-
 pub offset_bounds-subs-i : goal.offset_bounds-subs-i
 offset_bounds-subs-i c = omega arith
 
