@@ -89,7 +89,7 @@ returns-2 : tie.Need-returns-2
 returns-2 c =
     let number : ReadAs (bytes_in c.before.before.before.before.before.before.before.before.before.before.before.before.before.args.log.now (element_at c.before.before.before.before.before.before.before.before.before.before.before.before.before.args.main.now (c.before.before.before.before.before.before.before.before.before.before.before.before.before.args.m.main - 2))) c.before.before.before.before.before.number-of.result =
     rw c.before.before.before.before.before.before.get.ensures at c.before.before.before.before.before.number-of.ensures in
-    tells-stuck (sym c.before.before.before.before.before.before.before.before.before.before.is-going.ensures ∙ c.before.before.before.before.before.before.before.before.before.if1.true) c.before.before.before.before.before.before.before.before.before.before.before.before.before.requires
+    tells-stuck _ (sym c.before.before.before.before.before.before.before.before.before.before.is-going.ensures ∙ c.before.before.before.before.before.before.before.before.before.if1.true) c.before.before.before.before.before.before.before.before.before.before.before.before.before.requires
     (add-tells c.before.before.before.before.before.before.before.before.before.before.before.before.before.args.log.now c.before.before.before.before.before.before.before.before.before.before.before.before.before.args.main.now c.before.before.before.before.before.before.before.before.before.before.before.before.before.args.m c.before.before.before.before.before.before.before.before.if2.false (sym number.short ∙ c.before.before.before.before.if3.true)) c.before.before.before.say.ensures c.before.enum_told.given.1
     c.with-status2.ensures
 
@@ -100,7 +100,7 @@ returns-3 : tie.Need-returns-3
 returns-3 c =
     let number : ReadAs (bytes_in c.before.before.before.before.before.before.before.before.before.before.before.before.before.before.before.before.before.before.args.log.now (element_at c.before.before.before.before.before.before.before.before.before.before.before.before.before.before.before.before.before.before.args.main.now (c.before.before.before.before.before.before.before.before.before.before.before.before.before.before.before.before.before.before.args.m.main - 2))) c.before.before.before.before.before.before.before.before.before.before.number-of.result =
     rw c.before.before.before.before.before.before.before.before.before.before.before.get.ensures at c.before.before.before.before.before.before.before.before.before.before.number-of.ensures in
-    tells-over (sym c.before.before.before.before.before.before.before.before.before.before.before.before.before.before.before.is-going.ensures ∙ c.before.before.before.before.before.before.before.before.before.before.before.before.before.before.if1.true) c.before.before.before.before.before.before.before.before.before.before.before.before.before.before.before.before.before.before.requires
+    tells-over _ (sym c.before.before.before.before.before.before.before.before.before.before.before.before.before.before.before.is-going.ensures ∙ c.before.before.before.before.before.before.before.before.before.before.before.before.before.before.if1.true) c.before.before.before.before.before.before.before.before.before.before.before.before.before.before.before.before.before.before.requires
     (add-tells c.before.before.before.before.before.before.before.before.before.before.before.before.before.before.before.before.before.before.args.log.now c.before.before.before.before.before.before.before.before.before.before.before.before.before.before.before.before.before.before.args.main.now c.before.before.before.before.before.before.before.before.before.before.before.before.before.before.before.before.before.before.args.m c.before.before.before.before.before.before.before.before.before.before.before.before.before.if2.false (sym number.short ∙ c.before.before.before.before.before.before.before.before.before.if3.true)) false
     (first-no c.before.before.before.before.before.before.before.before.before.before.before.before.before.before.before.before.before.before.args.log.now c.before.before.before.before.before.before.before.before.before.before.before.before.before.before.before.before.before.before.args.m c.before.before.before.before.before.before.before.before.say.ensures c.before.before.before.before.before.before.enum-told2.given.1) (rw c.before.before.before.before.taken.ensures at c.before.before.over.ensures)
     (c.before.before.before.one_more.ensures c.before.before.before.before.before.before.before.before.before.before.before.before.before.before.before.before.before.before.args.log.now ∙ ap (λ (i : ℤ). write (one_more false i)) (number.is c.before.before.before.before.before.before.before.before.before.if3.true)) (λ a. refl)
@@ -112,7 +112,7 @@ returns-4 : tie.Need-returns-4
 returns-4 c =
     let number : ReadAs (bytes_in c.before.before.before.before.before.before.before.before.before.before.before.before.before.before.before.before.before.before.args.log.now (element_at c.before.before.before.before.before.before.before.before.before.before.before.before.before.before.before.before.before.before.args.main.now (c.before.before.before.before.before.before.before.before.before.before.before.before.before.before.before.before.before.before.args.m.main - 2))) c.before.before.before.before.before.before.before.before.before.before.number-of.result =
     rw c.before.before.before.before.before.before.before.before.before.before.before.get.ensures at c.before.before.before.before.before.before.before.before.before.before.number-of.ensures in
-    tells-over (sym c.before.before.before.before.before.before.before.before.before.before.before.before.before.before.before.is-going.ensures ∙ c.before.before.before.before.before.before.before.before.before.before.before.before.before.before.if1.true) c.before.before.before.before.before.before.before.before.before.before.before.before.before.before.before.before.before.before.requires
+    tells-over _ (sym c.before.before.before.before.before.before.before.before.before.before.before.before.before.before.before.is-going.ensures ∙ c.before.before.before.before.before.before.before.before.before.before.before.before.before.before.if1.true) c.before.before.before.before.before.before.before.before.before.before.before.before.before.before.before.before.before.before.requires
     (add-tells c.before.before.before.before.before.before.before.before.before.before.before.before.before.before.before.before.before.before.args.log.now c.before.before.before.before.before.before.before.before.before.before.before.before.before.before.before.before.before.before.args.main.now c.before.before.before.before.before.before.before.before.before.before.before.before.before.before.before.before.before.before.args.m c.before.before.before.before.before.before.before.before.before.before.before.before.before.if2.false (sym number.short ∙ c.before.before.before.before.before.before.before.before.before.if3.true)) true
     (first-yes c.before.before.before.before.before.before.before.before.before.before.before.before.before.before.before.before.before.before.args.log.now c.before.before.before.before.before.before.before.before.before.before.before.before.before.before.before.before.before.before.args.m c.before.before.before.before.before.before.before.before.say.ensures c.before.before.before.before.before.before.enum-told3.given.1) (rw c.before.before.before.before.taken2.ensures at c.before.before.over2.ensures)
     (c.before.before.before.one-more2.ensures c.before.before.before.before.before.before.before.before.before.before.before.before.before.before.before.before.before.before.args.log.now ∙ ap (λ (i : ℤ). write (one_more true i)) (number.is c.before.before.before.before.before.before.before.before.before.if3.true)) (λ a. refl)

@@ -72,7 +72,7 @@ returns-2 : tie.Need-returns-2
 returns-2 c kind =
     let number : ReadAs (bytes_in c.before.before.before.before.before.before.before.before.before.before.before.before.before.args.log.now (element_at c.before.before.before.before.before.before.before.before.before.before.before.before.before.args.main.now (c.before.before.before.before.before.before.before.before.before.before.before.before.before.args.m.main - 1))) c.before.before.before.before.before.number-of.result =
     rw c.before.before.before.before.before.before.get.ensures at c.before.before.before.before.before.number-of.ensures in
-    tells-stuck (sym c.before.before.before.before.before.before.before.before.before.before.is-going.ensures ∙ c.before.before.before.before.before.before.before.before.before.if1.true) c.before.before.before.before.before.before.before.before.before.before.before.before.before.requires
+    tells-stuck _ (sym c.before.before.before.before.before.before.before.before.before.before.is-going.ensures ∙ c.before.before.before.before.before.before.before.before.before.if1.true) c.before.before.before.before.before.before.before.before.before.before.before.before.before.requires
     (time-tells c.before.before.before.before.before.before.before.before.before.before.before.before.before.args.log.now c.before.before.before.before.before.before.before.before.before.before.before.before.before.args.main.now c.before.before.before.before.before.before.before.before.before.before.before.before.before.args.m kind c.before.before.before.before.before.before.before.before.if2.false (sym number.short ∙ c.before.before.before.before.if3.true)) c.before.before.before.say.ensures
     c.before.enum_told.given.1 c.with-status2.ensures
 
@@ -84,7 +84,7 @@ unfolding ok
 returns-3 c kind =
     let number : ReadAs (bytes_in c.before.before.before.before.before.before.before.before.before.before.before.before.before.before.args.log.now (element_at c.before.before.before.before.before.before.before.before.before.before.before.before.before.before.args.main.now (c.before.before.before.before.before.before.before.before.before.before.before.before.before.before.args.m.main - 1))) c.before.before.before.before.before.before.number-of.result =
     rw c.before.before.before.before.before.before.before.get.ensures at c.before.before.before.before.before.before.number-of.ensures in
-    tells-abort (sym c.before.before.before.before.before.before.before.before.before.before.before.is-going.ensures ∙ c.before.before.before.before.before.before.before.before.before.before.if1.true) c.before.before.before.before.before.before.before.before.before.before.before.before.before.before.requires
+    tells-abort _ (sym c.before.before.before.before.before.before.before.before.before.before.before.is-going.ensures ∙ c.before.before.before.before.before.before.before.before.before.before.if1.true) c.before.before.before.before.before.before.before.before.before.before.before.before.before.before.requires
     (time-tells c.before.before.before.before.before.before.before.before.before.before.before.before.before.before.args.log.now c.before.before.before.before.before.before.before.before.before.before.before.before.before.before.args.main.now c.before.before.before.before.before.before.before.before.before.before.before.before.before.before.args.m kind c.before.before.before.before.before.before.before.before.before.if2.false (sym number.short ∙ c.before.before.before.before.before.if3.true)) false
     (first-no c.before.before.before.before.before.before.before.before.before.before.before.before.before.before.args.log.now c.before.before.before.before.before.before.before.before.before.before.before.before.before.before.args.m c.before.before.before.before.say.ensures c.before.before.enum-told2.given.1)
     (c.with-status3.ensures ∙ ap (λ (m : Machine). with_status m Status.Aborted) c.before.taken.ensures) (λ a. refl)
@@ -97,7 +97,7 @@ unfolding ok
 returns-4 c kind =
     let number : ReadAs (bytes_in c.before.before.before.before.before.before.before.before.before.before.before.before.before.args.log.now (element_at c.before.before.before.before.before.before.before.before.before.before.before.before.before.args.main.now (c.before.before.before.before.before.before.before.before.before.before.before.before.before.args.m.main - 1))) c.before.before.before.before.before.number-of.result =
     rw c.before.before.before.before.before.before.get.ensures at c.before.before.before.before.before.number-of.ensures in
-    tells-keep (sym c.before.before.before.before.before.before.before.before.before.before.is-going.ensures ∙ c.before.before.before.before.before.before.before.before.before.if1.true) c.before.before.before.before.before.before.before.before.before.before.before.before.before.requires
+    tells-keep _ (sym c.before.before.before.before.before.before.before.before.before.before.is-going.ensures ∙ c.before.before.before.before.before.before.before.before.before.if1.true) c.before.before.before.before.before.before.before.before.before.before.before.before.before.requires
     (time-tells c.before.before.before.before.before.before.before.before.before.before.before.before.before.args.log.now c.before.before.before.before.before.before.before.before.before.before.before.before.before.args.main.now c.before.before.before.before.before.before.before.before.before.before.before.before.before.args.m kind c.before.before.before.before.before.before.before.before.if2.false (sym number.short ∙ c.before.before.before.before.if3.true)) true
     (first-yes c.before.before.before.before.before.before.before.before.before.before.before.before.before.args.log.now c.before.before.before.before.before.before.before.before.before.before.before.before.before.args.m c.before.before.before.say.ensures c.before.enum-told3.given.1) c.taken2.ensures (λ a. refl)
 
