@@ -9,24 +9,17 @@ use Rattle.words.specs.Bytes.{has_bytes}
 use Rattle.words.proofs.Bytes.{room, found-2, missing}
 use Rattle.words.proofs.u16_at.Goals as goal
 
--- the bytes are there
-there : (c : goal.Then-has_bytes) → has_bytes 2 c.args.s.now c.args.at ≡ true
-there c = sym c.has_bytes.ensures ∙ c.if-has_bytes.true
-
-within : (c : goal.Then-has_bytes) → c.args.at + 2 ≤ length c.args.s.now
-within c = room 2 c.args.s.now c.args.at (there c)
-
 pub bounds-s-at : goal.bounds-s-at
-bounds-s-at c = omega (arith, within c.before)
+bounds-s-at c = omega (arith, room 2 c.args.s.now c.args.at (sym c.has_bytes.ensures ∙ c.if-has_bytes.true))
 
 pub overflow_cast-b0 : goal.overflow_cast-b0
 overflow_cast-b0 c = omega (arith, c.shared_slice_known-then-has_bytes-1.given c.args.at)
 
 pub overflow_add-b1 : goal.overflow_add-b1
-overflow_add-b1 c = omega (arith, within c.before)
+overflow_add-b1 c = omega (arith, room 2 c.args.s.now c.args.at (sym c.has_bytes.ensures ∙ c.if-has_bytes.true))
 
 pub bounds-s-at-then-has_bytes : goal.bounds-s-at-then-has_bytes
-bounds-s-at-then-has_bytes c = omega (arith, within c.before.before)
+bounds-s-at-then-has_bytes c = omega (arith, room 2 c.args.s.now c.args.at (sym c.has_bytes.ensures ∙ c.if-has_bytes.true))
 
 pub overflow_cast-b1 : goal.overflow_cast-b1
 overflow_cast-b1 c = omega (arith, c.shared_slice_known-then-has_bytes-2-1.given (c.args.at + 1))
@@ -38,7 +31,7 @@ pub overflow_add-result : goal.overflow_add-result
 overflow_add-result c = omega (arith, c.shared_slice_known-then-has_bytes-2-1.given c.args.at, c.shared_slice_known-then-has_bytes-2-1.given (c.args.at + 1))
 
 pub returns-then-has_bytes : goal.returns-then-has_bytes
-returns-then-has_bytes c = sym (ap read16 (found-2 c.args.s.now c.args.at (there c.before.before)))
+returns-then-has_bytes c = sym (ap read16 (found-2 c.args.s.now c.args.at (sym c.has_bytes.ensures ∙ c.if-has_bytes.true)))
 
 pub returns : goal.returns
 returns c = sym (ap read16 (missing 2 c.args.s.now c.args.at (sym c.has_bytes.ensures ∙ c.if-has_bytes.false)))

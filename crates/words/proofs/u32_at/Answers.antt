@@ -9,42 +9,35 @@ use Rattle.words.specs.Bytes.{has_bytes}
 use Rattle.words.proofs.Bytes.{room, found-4, missing}
 use Rattle.words.proofs.u32_at.Goals as goal
 
--- the bytes are there
-there : (c : goal.Then-has_bytes) → has_bytes 4 c.args.s.now c.args.at ≡ true
-there c = sym c.has_bytes.ensures ∙ c.if-has_bytes.true
-
-within : (c : goal.Then-has_bytes) → c.args.at + 4 ≤ length c.args.s.now
-within c = room 4 c.args.s.now c.args.at (there c)
-
 pub bounds-s-at : goal.bounds-s-at
-bounds-s-at c = omega (arith, within c.before)
+bounds-s-at c = omega (arith, room 4 c.args.s.now c.args.at (sym c.has_bytes.ensures ∙ c.if-has_bytes.true))
 
 pub overflow_cast-b0 : goal.overflow_cast-b0
 overflow_cast-b0 c = omega (arith, c.shared_slice_known-then-has_bytes-1.given c.args.at)
 
 pub overflow_add-b1 : goal.overflow_add-b1
-overflow_add-b1 c = omega (arith, within c.before)
+overflow_add-b1 c = omega (arith, room 4 c.args.s.now c.args.at (sym c.has_bytes.ensures ∙ c.if-has_bytes.true))
 
 pub bounds-s-at-then-has_bytes : goal.bounds-s-at-then-has_bytes
-bounds-s-at-then-has_bytes c = omega (arith, within c.before.before)
+bounds-s-at-then-has_bytes c = omega (arith, room 4 c.args.s.now c.args.at (sym c.has_bytes.ensures ∙ c.if-has_bytes.true))
 
 pub overflow_cast-b1 : goal.overflow_cast-b1
 overflow_cast-b1 c = omega (arith, c.shared_slice_known-then-has_bytes-2-1.given (c.args.at + 1))
 
 pub overflow_add-b2 : goal.overflow_add-b2
-overflow_add-b2 c = omega (arith, within c.before.before)
+overflow_add-b2 c = omega (arith, room 4 c.args.s.now c.args.at (sym c.has_bytes.ensures ∙ c.if-has_bytes.true))
 
 pub bounds-s-at-then-has_bytes-2 : goal.bounds-s-at-then-has_bytes-2
-bounds-s-at-then-has_bytes-2 c = omega (arith, within c.before.before.before)
+bounds-s-at-then-has_bytes-2 c = omega (arith, room 4 c.args.s.now c.args.at (sym c.has_bytes.ensures ∙ c.if-has_bytes.true))
 
 pub overflow_cast-b2 : goal.overflow_cast-b2
 overflow_cast-b2 c = omega (arith, c.shared_slice_known-then-has_bytes-3-1.given (c.args.at + 2))
 
 pub overflow_add-b3 : goal.overflow_add-b3
-overflow_add-b3 c = omega (arith, within c.before.before.before)
+overflow_add-b3 c = omega (arith, room 4 c.args.s.now c.args.at (sym c.has_bytes.ensures ∙ c.if-has_bytes.true))
 
 pub bounds-s-at-then-has_bytes-3 : goal.bounds-s-at-then-has_bytes-3
-bounds-s-at-then-has_bytes-3 c = omega (arith, within c.before.before.before.before)
+bounds-s-at-then-has_bytes-3 c = omega (arith, room 4 c.args.s.now c.args.at (sym c.has_bytes.ensures ∙ c.if-has_bytes.true))
 
 pub overflow_cast-b3 : goal.overflow_cast-b3
 overflow_cast-b3 c = omega (arith, c.shared_slice_known-then-has_bytes-4-1.given (c.args.at + 3))
@@ -68,7 +61,7 @@ pub overflow_add-result-then-has_bytes-2 : goal.overflow_add-result-then-has_byt
 overflow_add-result-then-has_bytes-2 c = omega (arith, c.shared_slice_known-then-has_bytes-4-1.given c.args.at, c.shared_slice_known-then-has_bytes-4-1.given (c.args.at + 1), c.shared_slice_known-then-has_bytes-4-1.given (c.args.at + 2), c.shared_slice_known-then-has_bytes-4-1.given (c.args.at + 3))
 
 pub returns-then-has_bytes : goal.returns-then-has_bytes
-returns-then-has_bytes c = sym (ap read32 (found-4 c.args.s.now c.args.at (there c.before.before.before.before)))
+returns-then-has_bytes c = sym (ap read32 (found-4 c.args.s.now c.args.at (sym c.has_bytes.ensures ∙ c.if-has_bytes.true)))
 
 pub returns : goal.returns
 returns c = sym (ap read32 (missing 4 c.args.s.now c.args.at (sym c.has_bytes.ensures ∙ c.if-has_bytes.false)))
