@@ -29,11 +29,11 @@ loop-n-smaller c = omega arith
 
 pub loop-n-preserved : goal.loop-n-preserved
 loop-n-preserved c = (
-      omega (arith, c.loop-n.invariant.0),
-      older-below c.args.work.now c.args.number c.args.sat c.args.dissat c.loop-n.n c.loop-n-test.true
-          c.same_key.ensures c.if-same_key.false
-          ∙ c.loop-n.invariant.1,
-    )
+  omega (arith, c.loop-n.invariant.0),
+  older-below c.args.work.now c.args.number c.args.sat c.args.dissat c.loop-n.n c.loop-n-test.true
+      c.same_key.ensures c.if-same_key.false
+      ∙ c.loop-n.invariant.1,
+)
 
 pub returns : goal.returns
 returns c = let none_left : c.loop-n.n ≡ 0 = omega arith in

@@ -1,8 +1,6 @@
 -- `cache::put_entries` meets its contract: after k turns the first 4 k entries are written. Assumes nothing.
 use mathlib.Core.Path.{refl}
-use Rattle.cache.proofs.Rows.{written-more}
 use native.Mathlib.Omega.{arith}
-use lib.ListN.{length-set}
 use Rattle.cache.proofs.put_entries.Goals as goal
 
 pub overflow_add-words : goal.overflow_add-words
