@@ -7,9 +7,9 @@ use Rattle.oracle_lines.proofs.case_of.Goals as goal
 
 pub case_in-requires : goal.case_in-requires
 case_in-requires c = record {
-      in_order = (told-six c.args.line.now (subst (λ (w : Words). SixWords c.args.line.now w) c.in-Six.is c.six_words.ensures)).0;
-      line_len_bound = c.requires;
-    }
+  in_order = (told-six c.args.line.now (subst (λ (w : Words). SixWords c.args.line.now w) c.in-Six.is c.six_words.ensures)).0;
+  line_len_bound = c.requires;
+}
 
 pub returns-in-Six : goal.returns-in-Six
 returns-in-Six c = told-as (told-six c.args.line.now (subst (λ (w : Words). SixWords c.args.line.now w) c.in-Six.is c.six_words.ensures)).1
