@@ -1,7 +1,7 @@
 -- What adding a node or a row leaves, and what work memory with False and True alone holds. Assumes nothing.
 use mathlib.Core.Path.{◌≡◌, refl, sym, ap, ◌∙◌, subst}
 use mathlib.Core.List.{List}
-use mathlib.Core.Logic.{◌⊎◌, inl, inr, ⊎_elim}
+use mathlib.Core.Logic.{◌⊎◌, inl, inr}
 use Prim.Native.Nat.{ℕ, zero, suc, ◌+◌, ◌*◌, ◌/◌, ◌%◌, ◌^◌, ◌<◌, ◌≤◌}
 use native.Mathlib.Numerals.{add-one}
 use native.Mathlib.Omega.{arith}
@@ -13,11 +13,11 @@ use Rattle.figures.proofs.Entering.{false-entered, true-entered}
 use Rattle.candidates.specs.declared.Candidate.{Candidate}
 use Rattle.candidates.specs.Leaves.{false_candidate, true_candidate}
 use Rattle.definition.specs.Tables.{Table}
-use Rattle.nodes.specs.declared.Added.TheVariants.{At, Full}
+use Rattle.nodes.specs.declared.Added.TheVariants.{At}
 use Rattle.memory.specs.Layout.{work_words, max_nodes, max_rows, rows_from, word_at, node_count, table_count, row_count}
 use Rattle.nodes.specs.Words.{node_at, row_child}
 use Rattle.nodes.specs.Views.{seen_as, first_nodes, seen, offered}
-use Rattle.nodes.specs.Answers.{thresh_kind, max_figure, NodeHolds, Holds, Grows, SameTables, Fresh, OneMore, Adds, at, OneRow, Begun}
+use Rattle.nodes.specs.Answers.{thresh_kind, max_figure, NodeHolds, Holds, Fresh, OneMore, Adds, at, OneRow, Begun}
 use Rattle.nodes.specs.Stored.{FitExt, WordsAre, RowWordsAre}
 use Rattle.nodes.proofs.Packed.{entered-fits}
 use Rattle.nodes.proofs.Stored.{node-same, node-is, row_same, row-same-in, row-again, child-is, Put, put-leaves}

@@ -9,7 +9,6 @@ use lib.ListN.{drop}
 use lib.Seq.{drop-cons}
 use Rattle.contexts.specs.declared.Context.{Context}
 use Rattle.types.specs.declared.TypeResult.{TypeResult}
-use Rattle.types.specs.declared.TypeResult.TheVariants as TypeResult
 use Rattle.figures.specs.declared.ExtData.{ExtData}
 use Rattle.costs.specs.declared.Cost.{Cost}
 use Rattle.trees.specs.Fragment.{Fragment, False, True, Alt, Swap, Check, DupIf, Verify, NonZero, ZeroNotEqual, AndV, OrI}

@@ -3,32 +3,29 @@
 use mathlib.Core.Path.{◌≡◌, refl, sym, ap, ◌∙◌}
 use mathlib.Core.Bool.{Bool, true, false, cond}
 use mathlib.Core.List.{List, [], ◌∷◌, ◌++◌, map}
-use mathlib.Core.Logic.{◌⊎◌, inl, inr, ⊎_elim}
-use mathlib.Core.Option.{Option, none, some}
+use mathlib.Core.Logic.{◌⊎◌, inl, inr}
+use mathlib.Core.Option.{some}
 use Prim.Native.Nat.{ℕ, zero, suc, ◌+◌, ◌*◌, ◌/◌, ◌%◌, ◌<◌, ◌≤◌}
 use native.Mathlib.Omega.{arith}
 use borrow.Author.Tests.{ltb-true, ltb-false, eqb-true}
 use lib.Dec.{eqb, ltb}
-use lib.ListN.{length, get_or, drop, length-append, get_or-append}
-use lib.Seq.{get_or_at}
+use lib.ListN.{length, drop}
 use Rattle.figures.specs.declared.SatData.{SatData}
 use Rattle.figures.specs.declared.Sat.{Sat}
-use Rattle.figures.specs.declared.Sat.TheVariants as Sat
 use Rattle.figures.specs.Bounds.{SmallData, SmallSat, Small}
-use Rattle.policies.specs.Policy.{Policy}
-use Rattle.policies.specs.Forms.{number_of, children_of}
+use Rattle.policies.specs.Forms.{children_of}
 use Rattle.policies.specs.Array.{policy_at}
 use Rattle.trees.specs.Fragment.{Fragment}
-use Rattle.trees.specs.Tree.{Line, ◌is◌, find}
+use Rattle.trees.specs.Tree.{Line, find}
 use Rattle.writing.specs.WellFormed.{AllBelow}
-use Rattle.definition.specs.Candidates.{Candidate, candidate, false'}
+use Rattle.definition.specs.Candidates.{Candidate, candidate}
 use Rattle.definition.specs.Tables.{Table}
 use Rattle.candidates.specs.declared.Candidate as code
 use Rattle.memory.specs.Layout.{word_at, node_count, row_count}
 use Rattle.nodes.specs.Words.{node_at, row_child, sat_in}
 use Rattle.nodes.specs.Views.{among, row_at, Parts, makers, make_by, parts_of, tree_of, seen_as, first_nodes, all_nodes, seen, seen_all, offered}
-use Rattle.nodes.specs.Answers.{thresh_kind, NodeHolds, Holds, Grows, SameTables}
-use Rattle.nodes.proofs.Seen.{first-length, seen_at}
+use Rattle.nodes.specs.Answers.{thresh_kind, Holds, Grows, SameTables}
+use Rattle.nodes.proofs.Seen.{seen_at}
 
 -- ---- growing
 

@@ -1,6 +1,6 @@
 -- A node's eight words hold its candidate: each digit comes back, if it is below its width. Assumes nothing.
 use mathlib.Core.Path.{◌≡◌, refl, ap, ◌∙◌}
-use mathlib.Core.Bool.{Bool, true, false, cond}
+use mathlib.Core.Bool.{Bool, true, false}
 use Prim.Native.Nat.{ℕ, ◌+◌, ◌*◌, ◌/◌, ◌%◌, ◌<◌, ◌≤◌}
 use native.Mathlib.Omega.{arith}
 use lib.Dec.{eqb}
@@ -12,19 +12,16 @@ use Rattle.types.specs.TypeOrder.{pack, unpack}
 use Rattle.contexts.specs.Bools.{bool_rank}
 use Rattle.types.proofs.PackLaws.{pack-lt, unpack-pack}
 use Rattle.contexts.proofs.Bools.{bool-of}
-use Rattle.figures.specs.declared.SatData.{SatData}
 use Rattle.figures.specs.declared.Sat.{Sat}
-use Rattle.figures.specs.declared.Sat.TheVariants as Sat
 use Rattle.figures.specs.declared.ExtData.{ExtData}
-use Rattle.figures.specs.Bounds.{WithinData, WithinSat, Within, Bounded, Entered}
+use Rattle.figures.specs.Bounds.{WithinSat, Entered}
 use Rattle.costs.specs.declared.DissatCost.{DissatCost}
-use Rattle.costs.specs.declared.DissatCost.TheVariants as DissatCost
 use Rattle.costs.specs.declared.Cost.{Cost}
 use Rattle.candidates.specs.declared.Candidate.{Candidate}
 use Rattle.nodes.specs.Words.{shape_word, script_word, witness_word, stack_word, dissat_word, has_sat, has_dissat_cost}
-use Rattle.nodes.specs.Words.{type_or, type_in, sat_in, dissat_in, ext_in, cost_in, candidate_in}
+use Rattle.nodes.specs.Words.{type_or, sat_in, dissat_in, candidate_in}
 use Rattle.words.specs.Floats.{word_of_float}
-use Rattle.nodes.specs.Stored.{FitData, FitSat, FitExt, FitDissat, FitFloat, Fit}
+use Rattle.nodes.specs.Stored.{FitSat, FitExt, FitDissat, Fit}
 
 -- a digit between others
 pub middle : (k n low mid high w : ℕ) → low < k → mid < n → w ≡ low + (mid + high * n) * k → w / k % n ≡ mid

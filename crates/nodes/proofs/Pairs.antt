@@ -3,16 +3,14 @@
 use mathlib.Core.Path.{◌≡◌, refl, sym, ◌∙◌, ap}
 use mathlib.Core.Bool.{Bool, true, false, cond, ◌&&◌}
 use mathlib.Core.List.{List, [], ◌∷◌}
-use Prim.Native.Nat.{ℕ, ◌-◌, ◌<◌, ◌≤◌}
+use Prim.Native.Nat.{ℕ, ◌<◌}
 use lib.Dec.{eqb}
 use lib.Ieee.{Float}
 use Rattle.types.specs.declared.TypeResult.{TypeResult}
-use Rattle.types.specs.declared.TypeResult.TheVariants as TypeResult
 use Rattle.types.specs.TypeRules as type
 use Rattle.figures.specs.declared.ExtData.{ExtData}
 use Rattle.figures.specs.Rules as ext
 use Rattle.costs.specs.declared.Costed.{Costed}
-use Rattle.costs.specs.declared.Costed.TheVariants as Costed
 use Rattle.costs.specs.Rules as cost
 use Rattle.trees.specs.Fragment.{Fragment, AndB, AndV, OrB, OrD, OrC, OrI, AndOr}
 use Rattle.trees.specs.Tree.{find}
@@ -20,13 +18,12 @@ use Rattle.definition.specs.Candidates as definition
 use Rattle.definition.specs.Candidates.{Candidate, Pair, pair_no}
 use Rattle.candidates.specs.declared.Candidate as code
 use Rattle.candidates.specs.declared.Made.{Made}
-use Rattle.candidates.specs.declared.Made.TheVariants as Made
 use Rattle.candidates.specs.Pairs as pairs
 use Rattle.candidates.specs.Pairs.{Row, made_as, pair_by, pair_from, pair_of, and_or}
 use Rattle.candidates.proofs.Kept.{pair-kept, and-or-kept}
 use Rattle.memory.specs.Layout.{node_count}
 use Rattle.nodes.specs.Words.{node_at}
-use Rattle.nodes.specs.Views.{tree_of, seen_as, seen, offered}
+use Rattle.nodes.specs.Views.{tree_of, seen_as, seen}
 use Rattle.nodes.specs.Answers.{Holds}
 use Rattle.nodes.specs.Offers.{Offerable, made_seen}
 use Rattle.nodes.proofs.Seen.{Shows, TreeIs, seen-fields}

@@ -16,9 +16,7 @@ use Rattle.types.specs.TypeOrder.{pack}
 use Rattle.types.proofs.PackLaws.{pack-lt}
 use Rattle.figures.specs.declared.SatData.{SatData}
 use Rattle.figures.specs.declared.Sat.{Sat}
-use Rattle.figures.specs.declared.Sat.TheVariants as Sat
 use Rattle.costs.specs.declared.DissatCost.{DissatCost}
-use Rattle.costs.specs.declared.DissatCost.TheVariants as DissatCost
 use Rattle.candidates.specs.declared.Candidate.{Candidate}
 use Rattle.memory.specs.Layout.{max_nodes, rows_from, word_at}
 use Rattle.nodes.specs.Words.{script_word, witness_word, stack_word, candidate_in, node_words, node_at, row_child}

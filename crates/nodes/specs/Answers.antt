@@ -5,7 +5,7 @@ use Rattle.candidates.specs.declared.Candidate.{Candidate}
 use Rattle.candidates.specs.Leaves.{false_candidate, true_candidate}
 use Rattle.nodes.specs.declared.Added.{Added}
 use Rattle.nodes.specs.declared.Added.TheVariants.{At, Full}
-use Rattle.memory.specs.Layout.{work_words, max_nodes, max_rows, rows_from, keys_from, node_count, table_count, row_count, SameWords}
+use Rattle.memory.specs.Layout.{work_words, max_nodes, max_rows, keys_from, node_count, table_count, row_count, SameWords}
 use Rattle.nodes.specs.Words.{node_at, row_child}
 use Rattle.nodes.specs.Views.{seen, offered}
 

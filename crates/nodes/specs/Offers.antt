@@ -5,7 +5,6 @@ use Rattle.figures.specs.Bounds as bounds
 use Rattle.definition.specs.Candidates as definition
 use Rattle.candidates.specs.declared.Candidate.{Candidate}
 use Rattle.candidates.specs.declared.Made.{Made}
-use Rattle.candidates.specs.declared.Made.TheVariants as Made
 use Rattle.trees.specs.Height.{max_height}
 use Rattle.memory.specs.Layout.{row_count}
 use Rattle.nodes.specs.Views.{offered}

@@ -6,10 +6,8 @@ use Rattle.std.specs.Float.Ieee.{fits}
 use Rattle.words.specs.Floats.{word_of_float}
 use Rattle.figures.specs.declared.SatData.{SatData}
 use Rattle.figures.specs.declared.Sat.{Sat}
-use Rattle.figures.specs.declared.Sat.TheVariants as Sat
 use Rattle.figures.specs.declared.ExtData.{ExtData}
 use Rattle.costs.specs.declared.DissatCost.{DissatCost}
-use Rattle.costs.specs.declared.DissatCost.TheVariants as DissatCost
 use Rattle.candidates.specs.declared.Candidate.{Candidate}
 use Rattle.nodes.specs.Words.{shape_word, dissat_word, node_words}
 

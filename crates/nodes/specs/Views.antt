@@ -1,7 +1,7 @@
 -- What the nodes in work memory stand for: candidates that carry their trees, as the definition of compile has them. A leaf holds the number of
 -- a record of the policy, and so do Thresh, Multi and MultiA; the children of a Thresh are its row. Assumes nothing.
-use Rattle.std.specs.Prelude.{cond, List, [], ◌∷◌, ◌++◌, map, ℕ, zero, suc, ◌<◌, ◌≤◌, ◌≡◌, eqb, length, get_or}
-use Rattle.contexts.specs.Leaves.{LockKind, HashKind, After, Older, Sha256, Hash256, Ripemd160, Hash160}
+use Rattle.std.specs.Prelude.{List, [], ◌∷◌, ◌++◌, map, ℕ, zero, suc, length, get_or}
+use Rattle.contexts.specs.Leaves.{After, Older, Sha256, Hash256, Ripemd160, Hash160}
 use Rattle.policies.specs.Policy.{Policy}
 use Rattle.policies.specs.Forms.{number_of, k_of, children_of}
 use Rattle.policies.specs.Array.{policy_at}

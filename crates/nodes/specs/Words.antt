@@ -1,16 +1,13 @@
 -- The eight words of a node, and the candidate that they hold. Figures that have entered a table are within 4,000,000 bytes of script (figures,
 -- specs/Bounds.antt), so 22 bits hold those that count bytes of the script or elements, and 25 bits the sizes of witnesses. Assumes nothing.
-use Rattle.std.specs.Prelude.{Bool, cond, List, [], ◌∷◌, ℕ, ◌+◌, ◌*◌, ◌/◌, ◌%◌, ◌^◌, eqb, ltb}
+use Rattle.std.specs.Prelude.{cond, List, [], ◌∷◌, ℕ, ◌+◌, ◌*◌, ◌/◌, ◌%◌, ◌^◌, eqb, ltb}
 use Rattle.words.specs.Floats.{word_of_float, float_of_word}
 use Rattle.types.specs.declared.«Type».{«Type»}
 use Rattle.types.specs.TypeOrder.{pack}
 use Rattle.contexts.specs.Bools.{bool_rank}
-use Rattle.figures.specs.declared.SatData.{SatData}
 use Rattle.figures.specs.declared.Sat.{Sat}
-use Rattle.figures.specs.declared.Sat.TheVariants as Sat
 use Rattle.figures.specs.declared.ExtData.{ExtData}
 use Rattle.costs.specs.declared.DissatCost.{DissatCost}
-use Rattle.costs.specs.declared.DissatCost.TheVariants as DissatCost
 use Rattle.costs.specs.declared.Cost.{Cost}
 use Rattle.candidates.specs.declared.Candidate.{Candidate}
 use Rattle.memory.specs.Layout.{rows_from, word_at}

@@ -26,10 +26,10 @@ loop-j-smaller c = omega arith
 
 pub loop-j-preserved : goal.loop-j-preserved
 loop-j-preserved c = (
-      store-next c.args.work.now c.loop-j.work c.args.words.now c.args.at c.loop-j.j c.loop-j.invariant.0 (omega arith),
-      omega arith,
-      simp length-set c.loop-j.invariant.2,
-    )
+  store-next c.args.work.now c.loop-j.work c.args.words.now c.args.at c.loop-j.j c.loop-j.invariant.0 (omega arith),
+  omega arith,
+  simp length-set c.loop-j.invariant.2,
+)
 
 pub shape_of-work : goal.shape_of-work
 shape_of-work c = c.loop-j.invariant.2
