@@ -1,10 +1,10 @@
 -- The packed number: it is below 960, it determines its type, and its order is the derived order. Assumes nothing.
 use mathlib.Core.Path.{◌≡◌, refl, sym, ap, ◌∙◌}
-use mathlib.Core.Bool.{Bool, true, false, cond}
-use Prim.Native.Nat.{ℕ, suc, ◌+◌, ◌*◌, ◌/◌, ◌%◌, ◌<◌, ◌≤◌}
+use mathlib.Core.Bool.{Bool, true, false}
+use Prim.Native.Nat.{ℕ, ◌+◌, ◌*◌, ◌/◌, ◌%◌, ◌<◌}
 use native.Mathlib.Nat.{mul-le-mul_right, suc-mul, add_comm, zero-add, add-mul-mod_self_right, mod-eq_of_lt, add-mul-div_right, div-eq_of_lt}
 use native.Mathlib.Omega.{arith}
-use lib.Dec.{ltb, eqb}
+use lib.Dec.{ltb}
 use mir.Val.{bool_byte}
 use borrow.Author.Tests.{lt-ltb, le-ltb, ltb-true, ltb-false}
 use Rattle.types.specs.Names.{Correctness, Malleability, «Type», Ordering, Less, Equal, Greater, Unpacked, Is, NotAType}

@@ -2,7 +2,7 @@
 use mathlib.Core.Path.{◌≡◌, refl, sym, ap, ◌∙◌}
 use mathlib.Core.Bool.{Bool, true, false, ◌&&◌, and_assoc, and-true, and-false}
 use mathlib.Core.List.{List, [], ◌∷◌, map}
-use Prim.Native.Nat.{ℕ, zero, suc, ◌+◌, ◌-◌, ◌<◌, ◌≤◌}
+use Prim.Native.Nat.{ℕ, suc, ◌+◌, ◌-◌, ◌<◌, ◌≤◌}
 use native.Mathlib.Nat.{add-zero, zero-add, add_assoc}
 use native.Mathlib.Numerals.{add-one}
 use native.Mathlib.Omega.{arith}
@@ -10,13 +10,13 @@ use lib.Dec.{leb}
 use lib.ListN.{length, take, drop, get_or, length-map, length-take}
 use lib.Seq.{drop-cons, length-take-le}
 use borrow.Author.Tests.{le-leb, lt-leb, lt-ltb}
-use Rattle.types.specs.Names.{Correctness, Malleability, «Type», TypeResult, IllTyped}
+use Rattle.types.specs.Names.{Correctness, Malleability, «Type», IllTyped}
 use Rattle.types.specs.declared.TypeSoFar.{TypeSoFar}
 use Rattle.correctness.specs.Letters.{is_b, is_w}
 use Rattle.malleability.specs.Letters.{is_unique}
 use Rattle.contexts.specs.Lists.{all, sum, one, count}
 use Rattle.correctness.specs.CorrectnessRules.{num_args, threshold_input, or_b_input}
-use Rattle.types.specs.TypeRules.{typed_if, k_of_n, threshold, threshold_of}
+use Rattle.types.specs.TypeRules.{typed_if, threshold, threshold_of}
 use Rattle.malleability.specs.ThresholdSteps.{counted}
 use Rattle.types.specs.ThresholdSteps.{type_first, type_next, type_result, after}
 use Rattle.correctness.proofs.Inputs.{count-input}

@@ -1,5 +1,5 @@
 -- The checks that every type of a fragment passes, from `sanity_checks` in types/correctness.rs and types/mod.rs.
-use Rattle.std.specs.Prelude.{Bool, true, false, not, ◌&&◌, ◌||◌}
+use Rattle.std.specs.Prelude.{Bool, true, not, ◌&&◌}
 use Rattle.types.specs.Names.{Correctness, «Type», TypeResult, Ok, IllTyped}
 use Rattle.correctness.specs.Letters.{is_k, is_v, is_w, is_zero, is_non_zero, is_any}
 use Rattle.malleability.specs.Letters.{is_none, is_unique}

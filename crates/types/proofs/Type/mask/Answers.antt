@@ -51,11 +51,11 @@ overflow_add-result-6 c = let d = read c in omega (arith, d.below-b, d.below-i, 
 
 pub returns : goal.returns
 returns c = simp (
-      c.base_bits-b.ensures,
-      c.input_bits-i.ensures,
-      bool-byte c.args.self.corr.dissatisfiable,
-      bool-byte c.args.self.corr.unit,
-      c.dissat_bits-x.ensures,
-      bool-byte c.args.self.mall.safe,
-      bool-byte c.args.self.mall.non_malleable,
-    )
+  c.base_bits-b.ensures,
+  c.input_bits-i.ensures,
+  bool-byte c.args.self.corr.dissatisfiable,
+  bool-byte c.args.self.corr.unit,
+  c.dissat_bits-x.ensures,
+  bool-byte c.args.self.mall.safe,
+  bool-byte c.args.self.mall.non_malleable,
+)

@@ -65,11 +65,11 @@ overflow_add-result-6 c = let d = read c in
 
 pub returns : goal.returns
 returns c = simp (
-      c.rank-b.ensures,
-      c.rank-i.ensures,
-      bool-byte c.args.self.corr.dissatisfiable,
-      bool-byte c.args.self.corr.unit,
-      c.rank-x.ensures,
-      bool-byte c.args.self.mall.safe,
-      bool-byte c.args.self.mall.non_malleable,
-    )
+  c.rank-b.ensures,
+  c.rank-i.ensures,
+  bool-byte c.args.self.corr.dissatisfiable,
+  bool-byte c.args.self.corr.unit,
+  c.rank-x.ensures,
+  bool-byte c.args.self.mall.safe,
+  bool-byte c.args.self.mall.non_malleable,
+)
