@@ -1,13 +1,12 @@
 -- Closing up a row of places, a place further. Assumes nothing.
-use mathlib.Core.Path.{◌≡◌, refl, sym, ◌∙◌, ap}
-use mathlib.Core.Bool.{Bool, true, false}
-use mathlib.Core.List.{List, [], ◌∷◌, ◌++◌, append_assoc, append-nil}
+use mathlib.Core.Path.{◌≡◌, refl, sym, ◌∙◌}
+use mathlib.Core.List.{List, ◌++◌, append_assoc, append-nil}
 use Prim.Native.Nat.{ℕ, suc, ◌+◌, ◌<◌, ◌≤◌}
 use native.Mathlib.Numerals.{add-one}
 use native.Mathlib.Omega.{arith}
 use borrow.Author.Tests.{eq-eqb, ne_eqb}
 use lib.ListN.{length, get_or, drop, take, set, length-set}
-use lib.Seq.{drop-cons, drop-length, take-suc-set, drop-set-lt, length-take-le}
+use lib.Seq.{drop-cons, drop-length, take-suc-set, drop-set-lt}
 use Rattle.names.specs.Text.{space, without_spaces}
 
 -- n bytes are kept, and the places from i on are still to be looked at
