@@ -1,6 +1,6 @@
 -- The order of costs: total on those that are not refused, transitive, each finite one before never, and the order of the bits. What it is to
 -- choose by differences: as by the IEEE difference of the floats. Assumes nothing.
-use Rattle.std.proofs.Common.{◌≡◌, ℕ, ◌%◌, ◌<◌, ◌≤◌, Bool, true, false, ◌&&◌, T, eqb, ltb, leb, ◌⊎◌, ℤ, sym, refl, ap, ◌∙◌, subst, inl, inr, mod-eq_of_lt, arith, le→leb, leb→le, ltb-false, ltb-true, eqb-true, le-leb, leb-false}
+use Rattle.std.proofs.Common.{◌≡◌, ℕ, ◌<◌, ◌≤◌, Bool, true, false, ◌&&◌, T, eqb, ltb, leb, ◌⊎◌, ℤ, sym, refl, ap, ◌∙◌, subst, inl, inr, mod-eq_of_lt, arith, le→leb, leb→le, ltb-false, ltb-true, eqb-true, le-leb, leb-false}
 use mathlib.Core.Bool.{false≢true}
 use borrow.Author.Tests.{lt-leb, eqb-false}
 use lib.Ieee.{Float, nan, inf, fin, binary64, is_nan, fits, to_bits, of_bits, lt, sub, neg, add}

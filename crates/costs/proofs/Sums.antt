@@ -1,5 +1,5 @@
 -- The sum over the children of a threshold, one child at a time. Assumes nothing.
-use Rattle.std.proofs.Common.{◌≡◌, ℕ, suc, ◌+◌, ◌-◌, ◌<◌, ◌≤◌, min, List, length, get_or, take, drop, sym, refl, ◌∙◌, add-one, arith, take_all, drop-cons}
+use Rattle.std.proofs.Common.{◌≡◌, ℕ, suc, ◌+◌, ◌-◌, ◌<◌, ◌≤◌, min, List, length, get_or, take, drop, sym, ◌∙◌, add-one, arith, take_all, drop-cons}
 use native.Mathlib.Omega.{min_cases}
 use Rattle.costs.specs.Names.{Cost}
 use Rattle.costs.specs.Rules.{plus, plus_all, nothing}

@@ -1,9 +1,9 @@
 -- What the tests of a float tell of the answer that it is. Assumes nothing.
-use Rattle.std.proofs.Common.{◌≡◌, Bool, true, false, sym, refl, ◌∙◌}
+use Rattle.std.proofs.Common.{◌≡◌, true, false, sym, refl}
 use mathlib.Core.Bool.{false≢true}
 use lib.Ieee.{Float, nan, inf, fin, lt}
 use Rattle.words.specs.Floats.{is_cost}
-use Rattle.costs.specs.Names.{Price, Finite, Never, NotACost}
+use Rattle.costs.specs.Names.{Finite, Never, NotACost}
 use Rattle.costs.specs.Price.{price_of}
 
 pub price-finite : (x : Float) → is_cost x ≡ true → lt x (inf false) ≡ true → Finite x ≡ price_of x

@@ -2,7 +2,6 @@
 use Rattle.std.specs.Prelude.{ℕ, ◌-◌, ◌^◌, Bool, true, false, ◌&&◌, List, [], ◌∷◌, pos, ◌==◌, to_bits, Float}
 use Rattle.std.specs.Float.{fin, binary64}
 use Rattle.costs.specs.Names.{Ecdsa, Schnorr, DissatCost, Some, None, Cost, Costed}
-use Rattle.costs.specs.declared.Costed.TheVariants as Costed
 use Rattle.costs.specs.Arithmetic.{◌⊘◌, float_of}
 use Rattle.costs.specs.Rules.{cost, sat, dissat, TRUE, FALSE, pk_k, pk_h, multi, multi_a, hash, cast_likely}
 use Rattle.costs.specs.Rules.{or_b, or_d, or_i, and_or, threshold}

@@ -3,7 +3,6 @@
 use Rattle.std.specs.Prelude.{ℕ, ◌+◌, ◌-◌, cond, List, [], ◌∷◌, take, Float}
 use Rattle.std.specs.Float.Ieee.{lt}
 use Rattle.costs.specs.Names.{SigType, Ecdsa, Schnorr, DissatCost, Some, None, Cost, Costed}
-use Rattle.costs.specs.declared.Costed.TheVariants as Costed
 use Rattle.costs.specs.Arithmetic.{◌⊕◌, ◌⊖◌, ◌⊗◌, ◌⊘◌, float_of, 0·, 1·, 2·, 33·, 34·, 64·, 66·, 73·, MAX}
 
 -- a cost, of its satisfaction cost and its dissatisfaction cost

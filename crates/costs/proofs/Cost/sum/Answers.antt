@@ -1,6 +1,5 @@
-use Rattle.std.proofs.Common.{rules}
-use Rattle.std.proofs.Common.{arith, rules}
-use Rattle.costs.proofs.Sums.{starts, goes_on, ends}
+use Rattle.std.proofs.Common.{arith}
+use Rattle.costs.proofs.Sums.{goes_on, ends}
 use Rattle.costs.proofs.Cost.sum.Goals as goal
 
 pub offset_bounds-subs-i : goal.offset_bounds-subs-i
