@@ -1,7 +1,6 @@
 use mathlib.Core.Bool.{Bool, not, cond}
 use mathlib.Core.Path.{ap}
 use Rattle.spend_elements.proofs.equal.Goals as goal
-
 -- `spend_elements::equal` meets its contract. Assumes nothing.
 use native.Mathlib.Omega.{arith}
 use mathlib.Core.Path.{◌≡◌, sym, ◌∙◌}
