@@ -23,10 +23,10 @@ bounds-index-j c = omega (arith, c.loop-j.invariant.2, c.loop-j.invariant.3, c.l
 
 pub returns-then-index-j : goal.returns-then-index-j
 returns-then-index-j c = other_byte _ _ c.loop-j.j (λ e. c.if-index-j.true (e ∙ byte-is (entry_in c.args.work.now) c.args.count c.loop-j.j (omega (
-      arith,
-      c.loop-j.invariant.2,
-      c.loop-j-test.true,
-    )) ∙ sym c.byte_at-b.ensures))
+  arith,
+  c.loop-j.invariant.2,
+  c.loop-j-test.true,
+)) ∙ sym c.byte_at-b.ensures))
 
 pub overflow_add-j : goal.overflow_add-j
 overflow_add-j c = omega (arith, c.requires.1, c.loop-j.invariant.2, c.loop-j-test.true)
@@ -36,20 +36,20 @@ loop-j-smaller c = omega (arith, c.loop-j.invariant.2, c.loop-j-test.true)
 
 pub loop-j-preserved : goal.loop-j-preserved
 loop-j-preserved c = (
-      same_more c.loop-j.invariant.0 (c.if-index-j.false ∙ c.byte_at-b.ensures ∙ sym (byte-is (entry_in c.args.work.now) c.args.count c.loop-j.j (omega (
-        arith,
-        c.loop-j.invariant.2,
-        c.loop-j-test.true,
-      )))),
-      omega (arith, c.loop-j.invariant.2, c.loop-j-test.true),
-      c.loop-j.invariant.2,
-      c.loop-j.invariant.3,
-    )
+  same_more c.loop-j.invariant.0 (c.if-index-j.false ∙ c.byte_at-b.ensures ∙ sym (byte-is (entry_in c.args.work.now) c.args.count c.loop-j.j (omega (
+    arith,
+    c.loop-j.invariant.2,
+    c.loop-j-test.true,
+  )))),
+  omega (arith, c.loop-j.invariant.2, c.loop-j-test.true),
+  c.loop-j.invariant.2,
+  c.loop-j.invariant.3,
+)
 
 pub returns : goal.returns
 returns c = all-bytes _ _ (c.loop-j.invariant.3 ∙ sym (entries-long (entry_in c.args.work.now) c.args.count)) (λ m h. c.loop-j.invariant.0.each m (omega (
-      arith,
-      c.loop-j.invariant.2,
-      c.loop-j.invariant.3,
-      c.loop-j-test.false,
-    )))
+  arith,
+  c.loop-j.invariant.2,
+  c.loop-j.invariant.3,
+  c.loop-j-test.false,
+)))

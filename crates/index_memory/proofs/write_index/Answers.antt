@@ -26,20 +26,20 @@ loop-j-smaller c = omega (arith, c.loop-j.invariant.2, c.loop-j-test.true)
 
 pub loop-j-preserved : goal.loop-j-preserved
 loop-j-preserved c = (
-      write-more c.loop-j.invariant.0 (omega (arith, entries-long (entry_in c.args.work.now) c.args.count, c.loop-j.invariant.2, c.loop-j-test.true)) (omega (
-        arith,
-        c.requires.2,
-        c.loop-j.invariant.2,
-        c.loop-j-test.true,
-      )) (c.byte_at.ensures ∙ sym (byte-is (entry_in c.args.work.now) c.args.count c.loop-j.j (omega (
-        arith,
-        c.loop-j.invariant.2,
-        c.loop-j-test.true,
-      )))),
-      omega (arith, c.loop-j.invariant.2, c.loop-j-test.true),
-      c.loop-j.invariant.2,
-      length-set c.loop-j.out c.loop-j.j c.byte_at.result ∙ c.loop-j.invariant.3,
-    )
+  write-more c.loop-j.invariant.0 (omega (arith, entries-long (entry_in c.args.work.now) c.args.count, c.loop-j.invariant.2, c.loop-j-test.true)) (omega (
+    arith,
+    c.requires.2,
+    c.loop-j.invariant.2,
+    c.loop-j-test.true,
+  )) (c.byte_at.ensures ∙ sym (byte-is (entry_in c.args.work.now) c.args.count c.loop-j.j (omega (
+    arith,
+    c.loop-j.invariant.2,
+    c.loop-j-test.true,
+  )))),
+  omega (arith, c.loop-j.invariant.2, c.loop-j-test.true),
+  c.loop-j.invariant.2,
+  length-set c.loop-j.out c.loop-j.j c.byte_at.result ∙ c.loop-j.invariant.3,
+)
 
 pub shape_of-out : goal.shape_of-out
 shape_of-out c = c.loop-j.invariant.3
