@@ -1,24 +1,21 @@
 -- The loop of `worst`. Assumes nothing.
-use mathlib.Core.Path.{◌≡◌, refl, sym, ◌∙◌, ap}
+use mathlib.Core.Path.{◌≡◌, ◌∙◌, ap}
 use mathlib.Core.Bool.{Bool, true, false, cond}
-use mathlib.Core.List.{List, [], ◌∷◌, ◌++◌, reverse, reverse-append}
+use mathlib.Core.List.{List, [], ◌∷◌, reverse, reverse-append}
 use Prim.Native.Nat.{ℕ, suc, ◌+◌, ◌*◌, ◌-◌, ◌<◌, ◌≤◌}
-use native.Mathlib.Numerals.{add-one}
 use native.Mathlib.Omega.{arith}
 use lib.Dec.{leb, ltb}
 use lib.ListN.{length, get_or, take}
 use lib.Seq.{take-suc, get_or-take, length-take-le, take-take}
 use Rattle.figures.specs.declared.SatData.{SatData}
 use Rattle.figures.specs.declared.Sat.{Sat}
-use Rattle.figures.specs.declared.Sat.TheVariants as Sat
 use Rattle.figures.specs.declared.ExtData.{ExtData}
 use Rattle.figures.specs.Bounds.{WithinData, WithinSat, Within}
-use Rattle.figures.specs.Rules.{max, num}
+use Rattle.figures.specs.Rules.{num}
 use Rattle.figures.proofs.Few.{max-le, num-le}
 use Rattle.thresholds.specs.declared.Figure.{Figure}
 use Rattle.thresholds.specs.declared.Figure.TheVariants.{WitnessCount, WitnessSize, ScriptSigSize, ExecStack, ExecOps}
 use Rattle.thresholds.specs.declared.Count.{Count}
-use Rattle.thresholds.specs.declared.Count.TheVariants as Count
 use Rattle.thresholds.specs.Threshold.{proj, add, chosen, add_sat, add_child, try_fold, worst, Child, Children, Upto}
 use Rattle.thresholds.proofs.Insertion.{blank, children-get}
 

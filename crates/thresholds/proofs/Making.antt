@@ -1,5 +1,5 @@
 -- What `thresh` makes of at most 16 children that have entered is a candidate. Assumes nothing.
-use mathlib.Core.Path.{◌≡◌, refl, sym, ◌∙◌, ap, subst}
+use mathlib.Core.Path.{◌≡◌, refl, ◌∙◌, ap}
 use mathlib.Core.Bool.{Bool, true, false, cond}
 use mathlib.Core.List.{List, [], ◌∷◌, ◌++◌, reverse, reverse-cons}
 use Prim.Native.Nat.{ℕ, suc, ◌+◌, ◌*◌, ◌-◌, ◌<◌, ◌≤◌}
@@ -7,7 +7,6 @@ use native.Mathlib.Nat.{mul-add}
 use native.Mathlib.Omega.{arith}
 use lib.ListN.{length, get_or}
 use Rattle.figures.specs.declared.Sat.{Sat}
-use Rattle.figures.specs.declared.Sat.TheVariants as Sat
 use Rattle.figures.specs.declared.ExtData.{ExtData}
 use Rattle.figures.specs.Bounds.{Entered, Candidate, Within, WithinSat}
 use Rattle.figures.specs.Rules.{max, sat_data, sat_concat, script_num_size}
@@ -18,7 +17,6 @@ use Rattle.figures.proofs.Entering.{entered-higher}
 use Rattle.thresholds.specs.declared.Figure.{Figure}
 use Rattle.thresholds.specs.declared.Figure.TheVariants.{WitnessCount, WitnessSize, ScriptSigSize, ExecStack, ExecOps}
 use Rattle.thresholds.specs.declared.Count.{Count}
-use Rattle.thresholds.specs.declared.Count.TheVariants as Count
 use Rattle.thresholds.specs.Threshold.{key, below, insert_by, sort_by, add_child, try_fold, worst, together, satisfied}
 use Rattle.thresholds.specs.Threshold.{costs, statics, heights, dissats, threshold, AllEntered, Children, Upto}
 use Rattle.thresholds.proofs.Insertion.{blank}
