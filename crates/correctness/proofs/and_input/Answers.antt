@@ -1,5 +1,3 @@
-use mathlib.Core.Path.{sym}
-use Rattle.correctness.proofs.Arms.{no-z}
 use Rattle.correctness.proofs.and_input.Goals as goal
 
 pub enum_told-1 : goal.enum_told-1

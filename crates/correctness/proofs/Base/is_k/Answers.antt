@@ -1,4 +1,3 @@
-use Rattle.correctness.proofs.Arms.{no-k}
 use Rattle.correctness.proofs.Base.is_k.Goals as goal
 
 pub enum_told-1 : goal.enum_told-1

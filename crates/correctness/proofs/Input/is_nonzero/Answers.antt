@@ -1,4 +1,4 @@
-use Rattle.correctness.proofs.Arms.{an-n, no-n}
+use Rattle.correctness.proofs.Arms.{an-n}
 use Rattle.correctness.proofs.Input.is_nonzero.Goals as goal
 
 pub returns-in-OneNonZero : goal.returns-in-OneNonZero

@@ -1,4 +1,4 @@
-use Rattle.correctness.proofs.Arms.{an-o, no-o}
+use Rattle.correctness.proofs.Arms.{an-o}
 use Rattle.correctness.proofs.Input.is_one.Goals as goal
 
 pub returns-in-One : goal.returns-in-One

@@ -1,4 +1,3 @@
-use Rattle.correctness.proofs.Arms.{no-z}
 use Rattle.correctness.proofs.Input.is_zero.Goals as goal
 
 pub enum_told-1 : goal.enum_told-1

@@ -1,7 +1,3 @@
-use mathlib.Core.Path.{ap}
-use mathlib.Core.Bool.{Bool, cond}
-use Rattle.correctness.specs.Names.{One, Any}
-use Rattle.correctness.proofs.Arms.{no-z}
 use Rattle.correctness.proofs.Input.one_if_zero.Goals as goal
 
 pub enum_told-1 : goal.enum_told-1
