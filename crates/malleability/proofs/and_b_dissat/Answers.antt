@@ -1,5 +1,3 @@
-use mathlib.Core.Path.{◌∙◌}
-use Rattle.malleability.proofs.Arms.{none-some, unknown-some}
 use Rattle.malleability.proofs.and_b_dissat.Goals as goal
 
 pub enum_told-1 : goal.enum_told-1

@@ -1,7 +1,3 @@
-use mathlib.Core.Path.{ap}
-use mathlib.Core.Bool.{Bool, cond}
-use Rattle.malleability.specs.Names.{Unique, Unknown}
-use Rattle.malleability.proofs.Arms.{no-f}
 use Rattle.malleability.proofs.Dissat.added.Goals as goal
 
 pub enum_told-1 : goal.enum_told-1

@@ -1,4 +1,3 @@
-use Rattle.malleability.proofs.Arms.{no-f}
 use Rattle.malleability.proofs.Dissat.is_none.Goals as goal
 
 pub enum_told-1 : goal.enum_told-1

@@ -1,4 +1,3 @@
-use Rattle.malleability.proofs.Arms.{no-e}
 use Rattle.malleability.proofs.Dissat.is_unique.Goals as goal
 
 pub enum_told-1 : goal.enum_told-1
