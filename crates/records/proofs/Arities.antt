@@ -10,7 +10,6 @@ use lib.Dec.{leb}
 use lib.ListN.{length, take, replicate}
 use lib.Seq.{take-append_seam}
 use Rattle.records.specs.declared.Shape.{Shape}
-use Rattle.records.specs.declared.Shape.TheVariants as Shape
 use Rattle.records.specs.Numbers.{u16, u16s, max_count}
 use Rattle.records.specs.Shapes.{rows, arity}
 use Rattle.records.specs.Payloads.{Payload, nothing, number, children, weighted, threshold, keys, payload_of, count_of, children_of, keys_in}

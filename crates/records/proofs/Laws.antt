@@ -3,7 +3,7 @@ use mathlib.Core.Path.{◌≡◌, refl, ap, ◌∙◌}
 use mathlib.Core.Bool.{Bool, true, false, ◌&&◌}
 use mathlib.Core.List.{List, [], ◌∷◌}
 use mathlib.Core.Option.{Option, none, some}
-use Prim.Native.Nat.{ℕ, suc, ◌+◌, ◌-◌, ◌*◌, ◌<◌, ◌≤◌}
+use Prim.Native.Nat.{ℕ, suc, ◌+◌, ◌-◌, ◌<◌, ◌≤◌}
 use native.Mathlib.Omega.{arith}
 use borrow.Author.Tests.{leb-true, le-leb, lt-leb}
 use lib.Dec.{leb, eqb}
@@ -16,11 +16,8 @@ use Rattle.records.specs.RecordForm.{when_whole, record_length, kind_of, payload
 use Rattle.records.specs.RecordForm.{record_payload, policy_payload, fragment_payload}
 use Rattle.records.specs.Answers.{length_answer, shape_answer, padded, parts_of}
 use Rattle.records.specs.declared.Shape.{Shape}
-use Rattle.records.specs.declared.Shape.TheVariants as Shape
 use Rattle.records.specs.declared.KindShape.{KindShape}
-use Rattle.records.specs.declared.KindShape.TheVariants as KindShape
 use Rattle.records.specs.declared.RecordLength.{RecordLength}
-use Rattle.records.specs.declared.RecordLength.TheVariants as RecordLength
 use Rattle.records.proofs.Numbers.{u16-drop, length-u16s, length-numbers}
 use Rattle.records.proofs.Forms.{and_left, and_right, fits-bounds}
 use Rattle.records.proofs.Widths.{first-place, next_place}

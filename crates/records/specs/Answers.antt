@@ -5,9 +5,7 @@ use Rattle.records.specs.Numbers.{max_count}
 use Rattle.records.specs.Payloads.{Payload, number_of, k_of, count_of, children_of, left_weight_of, right_weight_of}
 use Rattle.records.specs.declared.Shape.{Shape}
 use Rattle.records.specs.declared.KindShape.{KindShape}
-use Rattle.records.specs.declared.KindShape.TheVariants as KindShape
 use Rattle.records.specs.declared.RecordLength.{RecordLength}
-use Rattle.records.specs.declared.RecordLength.TheVariants as RecordLength
 use Rattle.records.specs.declared.Parts.{Parts}
 
 abbrev pub length_answer : Option ℕ → RecordLength

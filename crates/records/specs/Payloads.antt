@@ -6,7 +6,6 @@ use Rattle.std.proofs.Math.Option.{Option, none, some}
 use Rattle.records.specs.Numbers.{number_at, u16, u32, u16s, numbers_at, between, max_lock, max_count}
 use Rattle.records.specs.Shapes.{is_long}
 use Rattle.records.specs.declared.Shape.{Shape}
-use Rattle.records.specs.declared.Shape.TheVariants as Shape
 
 pub data Payload : Type 0 where
   nothing : Payload

@@ -4,7 +4,6 @@ use Rattle.std.specs.Prelude.{Bool, true, false, cond, ◌||◌, List, [], ◌�
 use Rattle.std.proofs.Math.Option.{Option, none, some}
 use Rattle.records.specs.Numbers.{between}
 use Rattle.records.specs.declared.Shape.{Shape}
-use Rattle.records.specs.declared.Shape.TheVariants as Shape
 
 -- the kinds from the first to the last one have payloads of this shape
 pub data Row : Type 0 where

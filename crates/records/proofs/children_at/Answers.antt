@@ -29,9 +29,9 @@ loop-i-smaller c = omega arith
 
 pub loop-i-preserved : goal.loop-i-preserved
 loop-i-preserved c = (
-      rw (c.loop-i.invariant.0, c.u16_or_zero.ensures) (next-child c.args.bytes.now c.args.at c.loop-i.i (omega arith)),
-      omega arith,
-    )
+  rw (c.loop-i.invariant.0, c.u16_or_zero.ensures) (next-child c.args.bytes.now c.args.at c.loop-i.i (omega arith)),
+  omega arith,
+)
 
 pub returns : goal.returns
 returns c = let e : c.loop-i.i ≡ c.args.count = omega arith in

@@ -14,13 +14,13 @@ children_at-children-requires c = let fits = sym c.threshold_fits.ensures ∙ c.
 pub returns-then-threshold_fits : goal.returns-then-threshold_fits
 unfolding payload_of
 returns-then-threshold_fits c = simp (
-      sym c.threshold_fits.ensures ∙ c.if-threshold_fits.true,
-      c.u16_or_zero-count.ensures,
-      c.children_at-children.ensures,
-      c.fitting-parts.ensures,
-      c.u16_or_zero.ensures,
-      length-u16s,
-    )
+  sym c.threshold_fits.ensures ∙ c.if-threshold_fits.true,
+  c.u16_or_zero-count.ensures,
+  c.children_at-children.ensures,
+  c.fitting-parts.ensures,
+  c.u16_or_zero.ensures,
+  length-u16s,
+)
 
 pub returns : goal.returns
 unfolding payload_of

@@ -7,12 +7,12 @@ use Rattle.records.proofs.weighted.Goals as goal
 pub returns-then-bytes-eq16 : goal.returns-then-bytes-eq16
 unfolding payload_of u16s
 returns-then-bytes-eq16 c = simp (
-      eq-eqb _ _ c.if-bytes-eq16.true,
-      c.children_at-children.ensures,
-      c.fitting-parts.ensures,
-      c.u32_or_zero.ensures,
-      c.u32_or_zero-then-bytes-eq16.ensures,
-    )
+  eq-eqb _ _ c.if-bytes-eq16.true,
+  c.children_at-children.ensures,
+  c.fitting-parts.ensures,
+  c.u32_or_zero.ensures,
+  c.u32_or_zero-then-bytes-eq16.ensures,
+)
 
 pub returns : goal.returns
 unfolding payload_of
