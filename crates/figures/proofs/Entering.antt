@@ -11,8 +11,8 @@ use Rattle.contexts.specs.declared.Context.TheVariants.{Segwitv0, Tap}
 use Rattle.figures.specs.declared.Sat.{Sat}
 use Rattle.figures.specs.declared.Sat.TheVariants.{Some, None}
 use Rattle.figures.specs.declared.ExtData.{ExtData}
-use Rattle.figures.specs.Bounds.{limit, Small, SmallSat, WithinSat, Within, Bounded, Entered, Candidate}
-use Rattle.figures.specs.Rules.{max, num, false_ext, true_ext, pk_k, pk_h, num_cost, multi, multi_a, script_num_size}
+use Rattle.figures.specs.Bounds.{limit, Small, SmallSat, WithinSat, Entered, Candidate}
+use Rattle.figures.specs.Rules.{max, false_ext, true_ext, pk_k, pk_h, multi, multi_a}
 use Rattle.figures.specs.Rules.{sha256, hash256, ripemd160, hash160, after, older}
 use Rattle.figures.specs.Rules.{cast_alt, cast_swap, cast_check, cast_dupif, cast_verify, cast_nonzero, cast_zeronotequal}
 use Rattle.figures.specs.Rules.{cast_true, cast_unlikely, cast_likely, and_b, and_v, or_b, or_d, or_c, or_i, and_or}
@@ -22,7 +22,7 @@ use Rattle.figures.proofs.Few.{max-le, num-le, num-cost-le, num-size-le, key-le}
 use Rattle.figures.proofs.Within.{false-within, true-within, pk-k-within, pk-h-within, multi-within, multi-a-within}
 use Rattle.figures.proofs.Within.{sha256-within, hash256-within, ripemd160-within, hash160-within, after-within, older-within}
 use Rattle.figures.proofs.Within.{alt-within, swap-within, check-within, dupif-within, verify-within, nonzero-within}
-use Rattle.figures.proofs.Within.{zeronotequal-within, cast-true-within, cast-unlikely-within, cast-likely-within}
+use Rattle.figures.proofs.Within.{zeronotequal-within}
 use Rattle.figures.proofs.Within.{and-b-within, and-v-within, or-b-within, or-d-within, or-c-within, or-i-within, and-or-within}
 
 both_true : (a b : Bool) → a && b ≡ true → (a ≡ true) × (b ≡ true)

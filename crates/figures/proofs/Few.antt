@@ -1,5 +1,5 @@
 -- Bounds of the numbers that the rules add. Assumes nothing.
-use mathlib.Core.Path.{◌≡◌, refl, subst}
+use mathlib.Core.Path.{◌≡◌, subst}
 use mathlib.Core.Bool.{Bool, true, false, cond}
 use Prim.Native.Nat.{ℕ, ◌<◌, ◌≤◌}
 use native.Mathlib.Omega.{arith}
@@ -8,7 +8,7 @@ use Rattle.contexts.specs.declared.Context.{Context}
 use Rattle.contexts.specs.declared.Context.TheVariants.{Segwitv0, Tap}
 use Rattle.figures.specs.declared.SatData.{SatData}
 use Rattle.figures.specs.declared.Sat.{Sat}
-use Rattle.figures.specs.declared.Sat.TheVariants.{Some, None}
+use Rattle.figures.specs.declared.Sat.TheVariants.{Some}
 use Rattle.figures.specs.Bounds.{SmallData, SmallSat, Small}
 use Rattle.figures.specs.Rules.{max, num, script_num_size, key_bytes, max_sig_bytes, num_cost, true_ext, false_ext}
 

@@ -1,25 +1,19 @@
 -- Every rule keeps `Within`. Assumes nothing.
-use mathlib.Core.Path.{◌≡◌, refl}
-use mathlib.Core.Bool.{Bool, true, false, not, ◌&&◌}
-use Prim.Native.Nat.{ℕ, ◌+◌, ◌*◌, ◌-◌, ◌<◌, ◌≤◌}
+use mathlib.Core.Bool.{not}
+use Prim.Native.Nat.{ℕ, ◌+◌, ◌≤◌}
 use native.Mathlib.Omega.{arith}
-use borrow.Author.Tests.{leb-true}
-use lib.Dec.{leb, eqb}
 use Rattle.contexts.specs.declared.Context.{Context}
 use Rattle.contexts.specs.declared.Context.TheVariants.{Segwitv0, Tap}
-use Rattle.figures.specs.declared.SatData.{SatData}
 use Rattle.figures.specs.declared.Sat.{Sat}
 use Rattle.figures.specs.declared.Sat.TheVariants.{Some, None}
 use Rattle.figures.specs.declared.ExtData.{ExtData}
-use Rattle.figures.specs.Bounds.{limit, Small, SmallSat, SmallData, WithinData, WithinSat, Within}
-use Rattle.figures.specs.Rules.{max, num, fieldwise_max, fieldwise_max_opt, map_sat, concat, sat_concat, script_num_size}
-use Rattle.figures.specs.Rules.{false_ext, true_ext, key_bytes, max_sig_bytes, pk_k, pk_h, num_cost, multi, multi_a}
+use Rattle.figures.specs.Bounds.{WithinSat, Within}
+use Rattle.figures.specs.Rules.{num, fieldwise_max_opt, map_sat, sat_concat}
+use Rattle.figures.specs.Rules.{false_ext, true_ext, pk_k, pk_h, multi, multi_a}
 use Rattle.figures.specs.Rules.{sha256, hash256, ripemd160, hash160, after, older}
-use Rattle.figures.specs.Rules.{cast_alt, cast_swap, cast_check, dup_if, one_element, cast_dupif, cast_verify, cast_nonzero}
+use Rattle.figures.specs.Rules.{cast_alt, cast_swap, cast_check, dup_if, cast_dupif, cast_verify, cast_nonzero}
 use Rattle.figures.specs.Rules.{cast_zeronotequal, cast_true, cast_unlikely, cast_likely}
-use Rattle.figures.specs.Rules.{over, and_b, and_v, or_b, or_d, or_c, with0, with1, either_branch, or_i, and_or}
-use Rattle.figures.specs.Validity.{check_local_validity, global_consensus, global_policy, local_consensus, local_policy, Multi}
-use Rattle.figures.specs.Validity.{MAX-BLOCK-WEIGHT, MAX-STANDARD-P2WSH-SCRIPT-SIZE}
+use Rattle.figures.specs.Rules.{and_b, and_v, or_b, or_d, or_c, with0, with1, either_branch, or_i, and_or}
 use Rattle.figures.proofs.Few.{max-le}
 
 -- cases

@@ -3,7 +3,6 @@
 use Rattle.std.specs.Prelude.{Bool, true, false, not, ◌&&◌, ℕ, ◌+◌, leb, eqb}
 use Rattle.contexts.specs.declared.Context.{Context}
 use Rattle.contexts.specs.declared.Context.TheVariants.{Segwitv0, Tap}
-use Rattle.figures.specs.declared.SatData.{SatData}
 use Rattle.figures.specs.declared.Sat.{Sat}
 use Rattle.figures.specs.declared.Sat.TheVariants.{Some, None}
 use Rattle.figures.specs.declared.ExtData.{ExtData}

@@ -12,10 +12,10 @@ over-requires c = (c.requires.0.height, omega (arith, c.max.ensures, max-lt _ _ 
 pub returns : goal.returns
 unfolding and_or
 returns c = simp (
-      c.over.ensures,
-      c.max.ensures,
-      c.sat_concat-dissat_data.ensures,
-      c.fieldwise_max_opt-sat_data.ensures,
-      c.sat_concat-second.ensures,
-      c.sat_concat-first.ensures,
-    )
+  c.over.ensures,
+  c.max.ensures,
+  c.sat_concat-dissat_data.ensures,
+  c.fieldwise_max_opt-sat_data.ensures,
+  c.sat_concat-second.ensures,
+  c.sat_concat-first.ensures,
+)

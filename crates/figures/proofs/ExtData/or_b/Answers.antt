@@ -4,9 +4,9 @@ use Rattle.figures.proofs.ExtData.or_b.Goals as goal
 pub returns : goal.returns
 unfolding or_b
 returns c = simp (
-      c.over.ensures,
-      c.sat_concat-dissat_data.ensures,
-      c.fieldwise_max_opt-sat_data.ensures,
-      c.sat_concat-second.ensures,
-      c.sat_concat-first.ensures,
-    )
+  c.over.ensures,
+  c.sat_concat-dissat_data.ensures,
+  c.fieldwise_max_opt-sat_data.ensures,
+  c.sat_concat-second.ensures,
+  c.sat_concat-first.ensures,
+)

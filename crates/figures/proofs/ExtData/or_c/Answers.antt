@@ -4,7 +4,7 @@ use Rattle.figures.proofs.ExtData.or_c.Goals as goal
 pub returns : goal.returns
 unfolding or_c
 returns c = simp (
-      c.over.ensures,
-      c.fieldwise_max_opt-sat_data.ensures,
-      c.sat_concat-second.ensures,
-    )
+  c.over.ensures,
+  c.fieldwise_max_opt-sat_data.ensures,
+  c.sat_concat-second.ensures,
+)
