@@ -1,13 +1,13 @@
 -- The rules by kind, a range of kinds at a time. Assumes nothing.
 use Prim.Native.Nat.{ℕ, zero, suc, ◌+◌, ◌-◌, ◌≤◌, ◌<◌}
 use mathlib.Core.List.{List, [], ◌∷◌}
-use mathlib.Core.Option.{none, some}
+use mathlib.Core.Option.{none}
 use mathlib.Core.Path.{◌≡◌, refl, sym, ap, subst, ◌∙◌}
 use native.Mathlib.Omega.{arith}
-use borrow.Author.Tests.{le-leb, lt-leb, ne_eqb}
+use borrow.Author.Tests.{le-leb}
 use lib.ListN.{length, get_or, take}
 use Rattle.records.specs.Shapes.{arity}
-use Rattle.records.proofs.Arities.{arity-one, arity-two, arity-below, arity-above}
+use Rattle.records.proofs.Arities.{arity-one, arity-two, arity-below}
 use Rattle.types.specs.declared.«Type».{«Type»}
 use Rattle.types.specs.declared.TypeResult.{TypeResult}
 use Rattle.types.specs.TypeRules as rule

@@ -3,14 +3,12 @@ use Prim.Native.Nat.{ℕ, suc, max, ◌<◌}
 use mathlib.Core.Bool.{Bool, true, false, cond}
 use mathlib.Core.List.{List, [], ◌∷◌}
 use mathlib.Core.Option.{Option, none, some}
-use mathlib.Core.Path.{◌≡◌, refl, ap, ◌∙◌}
+use mathlib.Core.Path.{◌≡◌, refl, ap}
 use native.Mathlib.Omega.{arith}
 use lib.Dec.{eqb}
 use Rattle.records.specs.Payloads.{Payload}
 use Rattle.contexts.specs.Leaves.{After, Older, Sha256, Hash256, Ripemd160, Hash160}
-use Rattle.trees.specs.Fragment.{
-    Fragment, Fragments, False, True, PkK, PkH, Lock, Hash, Alt, Swap, Check, DupIf, Verify, NonZero, ZeroNotEqual, AndB, AndV, OrB, OrD, OrC, OrI, AndOr, Thresh, Multi, MultiA,
-}
+use Rattle.trees.specs.Fragment.{Fragment, False, True, PkK, PkH, Lock, Hash, Alt, Swap, Check, DupIf, Verify, NonZero, ZeroNotEqual, AndB, AndV, OrB, OrD, OrC, OrI, AndOr, Thresh, Multi, MultiA}
 use Rattle.trees.specs.Height.{max_height, height_of, tallest_of}
 use Rattle.trees.specs.Tree.{Line, find, Maker, plain, with_number, one, two, three, fragments, of_children, of_keys, makers, made_by, fragment_of}
 use Rattle.trees.proofs.Slots.{All, empty, both, Any, here, there, IfSome}

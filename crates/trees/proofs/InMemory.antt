@@ -12,7 +12,6 @@ use Rattle.types.proofs.PackLaws.{pack-lt, unpack-pack}
 use Rattle.words.proofs.Packing.{digit, rest}
 use Rattle.trees.specs.declared.Subtree.{Subtree}
 use Rattle.trees.specs.declared.Slot.{Slot}
-use Rattle.trees.specs.declared.Slot.TheVariants as Slot
 use Rattle.trees.specs.Reading.{Slots, Taken, and_first, take_all}
 use Rattle.trees.specs.WorkMemory.{unpacked, slot_of, slots_in, slot_answer}
 

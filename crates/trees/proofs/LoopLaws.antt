@@ -15,7 +15,6 @@ use Rattle.records.proofs.Laws.{length-bounds}
 use Rattle.contexts.specs.declared.Context.{Context}
 use Rattle.trees.specs.declared.Subtree.{Subtree}
 use Rattle.trees.specs.declared.Step.{Step}
-use Rattle.trees.specs.declared.Step.TheVariants as Step
 use Rattle.trees.specs.Reading.{Answer, refused, done, ◌>>=◌, or_refuse, bad_tree, ill_typed, tree_too_large, tree_too_tall, max_records}
 use Rattle.trees.specs.Reading.{Slots, Taken, take_all, root_of, add_made, add_payload, add_record, read_from, read_tree}
 use Rattle.trees.specs.Rules.{make_subtree}

@@ -14,7 +14,31 @@ use Rattle.types.specs.TypeRules as rule
 use Rattle.contexts.specs.declared.Context.{Context}
 use Rattle.contexts.specs.Leaves.{After, Older, Sha256, Hash256, Ripemd160, Hash160}
 use Rattle.trees.specs.Fragment.{
-    Fragment, Fragments, False, True, PkK, PkH, Lock, Hash, Alt, Swap, Check, DupIf, Verify, NonZero, ZeroNotEqual, AndB, AndV, OrB, OrD, OrC, OrI, AndOr, Thresh, Multi, MultiA,
+  Fragment,
+  Fragments,
+  False,
+  True,
+  PkK,
+  PkH,
+  Lock,
+  Hash,
+  Alt,
+  Swap,
+  Check,
+  DupIf,
+  Verify,
+  NonZero,
+  ZeroNotEqual,
+  AndB,
+  AndV,
+  OrB,
+  OrD,
+  OrC,
+  OrI,
+  AndOr,
+  Thresh,
+  Multi,
+  MultiA,
 }
 use Rattle.trees.specs.Typing.{◌>>=◌, all_typed, and_all, type_of, types_of}
 use Rattle.trees.specs.Typing.{in_segwitv0, in_tap}

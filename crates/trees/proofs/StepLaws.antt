@@ -1,7 +1,7 @@
 -- Reading one record in work memory, from what the functions that it calls tell. Assumes nothing.
-use Prim.Native.Nat.{ℕ, zero, suc, ◌+◌}
+use Prim.Native.Nat.{ℕ, suc, ◌+◌}
 use mathlib.Core.Bool.{Bool, true, false, cond}
-use mathlib.Core.List.{List, [], ◌∷◌, ◌++◌, map}
+use mathlib.Core.List.{List, [], ◌∷◌, ◌++◌}
 use mathlib.Core.Option.{Option, none, some}
 use mathlib.Core.Path.{◌≡◌, refl, sym, ap, subst, ◌∙◌}
 use native.Mathlib.Omega.{arith}
@@ -17,7 +17,6 @@ use Rattle.contexts.specs.declared.Context.{Context}
 use Rattle.trees.specs.declared.Subtree.{Subtree}
 use Rattle.trees.specs.declared.Children.{Children}
 use Rattle.trees.specs.declared.Step.{Step}
-use Rattle.trees.specs.declared.Step.TheVariants as Step
 use Rattle.trees.specs.Height.{max_height}
 use Rattle.trees.specs.Reading.{Answer, refused, done, ◌>>=◌, tree_too_tall, Slots, Taken, take_all, add_record}
 use Rattle.trees.specs.Rules.{answered, rule_of, types_of, tallest, make_subtree}

@@ -30,7 +30,6 @@ use Rattle.trees.proofs.Slots.{All, both, Any, here, there, Pairs, empty, pair, 
 use Rattle.trees.proofs.Rules.{Good, Ill, type_made, FitsIfFound, fits}
 use Rattle.trees.proofs.Heights.{tallest_tree, any-tall, rises}
 use Rattle.trees.proofs.Joint.{IfDone, refuses, holds, Joint, neither, first, joint}
-use Rattle.trees.proofs.Joint as Joint
 
 module _ (c : Context) where
   -- ---- the trees of the bytes, and those that are well-typed and not too tall

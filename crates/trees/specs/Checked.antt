@@ -1,7 +1,6 @@
 -- What the tree check answers: document 01's number, and the type, for each of its cases ("Numbers the console shows"); 19 is document 02's, R-8.
 use Rattle.types.specs.declared.«Type».{«Type»}
 use Rattle.trees.specs.declared.Checked.{Checked}
-use Rattle.trees.specs.declared.Checked.TheVariants as Checked
 use Rattle.trees.specs.Reading.{Answer, refused, done, map_answer, bad_tree, ill_typed, tree_too_large, tree_too_tall}
 use Rattle.trees.specs.TreeCheck.{bad_context, bad_work, Typed}
 

@@ -1,5 +1,5 @@
 -- The type of a fragment tree, from the type rules of types/mod.rs and document 01's refusal 15 (Multi only in context 0, MultiA only in 1).
-use Rattle.std.specs.Prelude.{ℕ, List, [], ◌∷◌}
+use Rattle.std.specs.Prelude.{List, [], ◌∷◌}
 use Rattle.std.proofs.Math.Option.{Option, none, some}
 use Rattle.types.specs.declared.«Type».{«Type»}
 use Rattle.types.specs.declared.TypeResult.{TypeResult}

@@ -7,13 +7,10 @@ use Rattle.types.specs.declared.Unpacked.{Unpacked}
 use Rattle.types.specs.declared.Unpacked.TheVariants.{Is, NotAType}
 use Rattle.types.specs.TypeOrder.{unpack}
 use Rattle.contexts.specs.declared.Context.{Context}
-use Rattle.trees.specs.declared.Checked.TheVariants as Checked
 use Rattle.trees.specs.declared.Subtree.{Subtree}
 use Rattle.trees.specs.declared.Slot.{Slot}
-use Rattle.trees.specs.declared.Slot.TheVariants as Slot
 use Rattle.trees.specs.declared.Children.{Children}
 use Rattle.trees.specs.declared.Step.{Step}
-use Rattle.trees.specs.declared.Step.TheVariants as Step
 use Rattle.trees.specs.Reading.{Answer, refused, done, map_answer, bad_tree, ill_typed, tree_too_tall, Slots, Taken, add_record}
 use Rattle.trees.specs.Height.{max_height}
 use Rattle.trees.specs.Rules.{tallest, make_subtree}

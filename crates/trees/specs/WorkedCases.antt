@@ -5,10 +5,6 @@ use Rattle.records.specs.Numbers.{u16s, numbers_at}
 use Rattle.records.specs.Shapes.{look_up, shape_of}
 use Rattle.records.specs.Payloads.{width, payload_of}
 use Rattle.records.specs.RecordForm.{kind_of}
-use Rattle.types.specs.declared.«Type».{«Type»}
-use Rattle.types.specs.declared.TypeResult.{TypeResult}
-use Rattle.types.specs.declared.TypeResult.TheVariants.{Ok}
-use Rattle.types.specs.TypeRules as rule
 use Rattle.trees.specs.Fragment.{PkK, Check}
 use Rattle.trees.specs.Typing.{type_of}
 use Rattle.trees.specs.Height.{height_of}

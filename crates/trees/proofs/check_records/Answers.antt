@@ -8,25 +8,6 @@ use Rattle.trees.proofs.LoopLaws.{same-room, progress-bad, progress-ill, progres
 use Rattle.trees.proofs.LoopLaws.{progress-unused, progress-root, some_read}
 use Rattle.trees.proofs.check_records.Goals as goal
 
--- the turn that reads a record, once its length is known
-abbrev at-loop : tie.After-known-told invariant-loop decreases-loop → tie.At-loop invariant-loop decreases-loop
-at-loop c = c.before.before.before.before.before.before
-
-abbrev start : tie.After-known-told invariant-loop decreases-loop → tie.Start invariant-loop decreases-loop
-start c = (at-loop c).before.before.before
-
-turn : (c : goal.In-Whole)
-    → Turn (start c).args.context (start c).args.tree.now (at-loop c).loop.work (at-loop c).loop.at (at-loop c).loop.read
-    (at-loop c).loop.free c.in-Whole.len
-turn c =
-    record {
-      so_far = (at-loop c).loop.invariant;
-      inside = c.loop-at-test.true;
-      more = omega (arith, c.if-read-eq-MAX_RECORDS.false, (at-loop c).loop.invariant.few);
-      whole =
-          whole_length (start c).args.tree.now (at-loop c).loop.at c.length_at.ensures c.in-Whole.is;
-    }
-
 pub loop-at-init : goal.loop-at-init
 loop-at-init c = progress_start c.args.context c.args.tree.now c.args.work.now c.requires
 
@@ -35,9 +16,9 @@ shape_of-work-then-read-eq-MAX_RECORDS c = c.loop-at.invariant.room ∙ sym c.re
 
 pub returns-then-read-eq-MAX_RECORDS : goal.returns-then-read-eq-MAX_RECORDS
 returns-then-read-eq-MAX_RECORDS c = record {
-      result_value = progress-large c.loop-at.invariant c.loop-at-test.true c.if-read-eq-MAX_RECORDS.true;
-      work_len_unchanged = c.loop-at.invariant.room ∙ sym c.requires;
-    }
+  result_value = progress-large c.loop-at.invariant c.loop-at-test.true c.if-read-eq-MAX_RECORDS.true;
+  work_len_unchanged = c.loop-at.invariant.room ∙ sym c.requires;
+}
 
 pub shape_of-work-in_default : goal.shape_of-work-in_default
 shape_of-work-in_default c = c.loop-at.invariant.room ∙ sym c.requires
@@ -50,7 +31,14 @@ returns-in_default c = let broken = broken-length c.args.tree.now c.loop-at.at c
     }
 
 pub overflow_add-end : goal.overflow_add-end
-overflow_add-end c = omega (arith, end-within (turn c))
+overflow_add-end c = let turn : Turn c.args.context c.args.tree.now c.loop-at.work c.loop-at.at c.loop-at.read c.loop-at.free c.in-Whole.len
+    = record {
+      so_far = c.loop-at.invariant;
+      inside = c.loop-at-test.true;
+      more = omega (arith, c.if-read-eq-MAX_RECORDS.false, c.loop-at.invariant.few);
+      whole = whole_length c.args.tree.now c.loop-at.at c.length_at.ensures c.in-Whole.is;
+    } in
+    omega (arith, end-within turn)
 
 pub slice_bounds-check_record-count : goal.slice_bounds-check_record-count
 slice_bounds-check_record-count c = omega arith
@@ -62,43 +50,106 @@ pub overflow_add-free : goal.overflow_add-free
 overflow_add-free c = omega (arith, free-few c.loop-at.invariant)
 
 pub overflow_sub-free : goal.overflow_sub-free
-overflow_sub-free c = omega (arith, progress-free (turn c.before.before.before.before.before.before.before.before) c.check_record.ensures c.in-Next.is)
+overflow_sub-free c = let turn : Turn c.args.context c.args.tree.now c.loop-at.work c.loop-at.at c.loop-at.read c.loop-at.free c.in-Whole.len
+    = record {
+      so_far = c.loop-at.invariant;
+      inside = c.loop-at-test.true;
+      more = omega (arith, c.if-read-eq-MAX_RECORDS.false, c.loop-at.invariant.few);
+      whole = whole_length c.args.tree.now c.loop-at.at c.length_at.ensures c.in-Whole.is;
+    } in
+    omega (arith, progress-free turn c.check_record.ensures c.in-Next.is)
 
 pub shape_of-work-in-BadTree : goal.shape_of-work-in-BadTree
-shape_of-work-in-BadTree c = same-room (turn c.before.before.before.before.before.before.before) c.check_record.ensures c.requires
+shape_of-work-in-BadTree c = let turn : Turn c.args.context c.args.tree.now c.loop-at.work c.loop-at.at c.loop-at.read c.loop-at.free c.in-Whole.len
+    = record {
+      so_far = c.loop-at.invariant;
+      inside = c.loop-at-test.true;
+      more = omega (arith, c.if-read-eq-MAX_RECORDS.false, c.loop-at.invariant.few);
+      whole = whole_length c.args.tree.now c.loop-at.at c.length_at.ensures c.in-Whole.is;
+    } in
+    same-room turn c.check_record.ensures c.requires
 
 pub returns-in-BadTree : goal.returns-in-BadTree
-returns-in-BadTree c = record {
-      result_value = progress-bad (turn c.before.before.before.before.before.before.before) c.check_record.ensures c.in-BadTree.is;
-      work_len_unchanged = same-room (turn c.before.before.before.before.before.before.before) c.check_record.ensures c.requires;
+returns-in-BadTree c = let turn : Turn c.args.context c.args.tree.now c.loop-at.work c.loop-at.at c.loop-at.read c.loop-at.free c.in-Whole.len
+    = record {
+      so_far = c.loop-at.invariant;
+      inside = c.loop-at-test.true;
+      more = omega (arith, c.if-read-eq-MAX_RECORDS.false, c.loop-at.invariant.few);
+      whole = whole_length c.args.tree.now c.loop-at.at c.length_at.ensures c.in-Whole.is;
+    } in
+    record {
+      result_value = progress-bad turn c.check_record.ensures c.in-BadTree.is;
+      work_len_unchanged = same-room turn c.check_record.ensures c.requires;
     }
 
 pub shape_of-work-in-IllTyped : goal.shape_of-work-in-IllTyped
-shape_of-work-in-IllTyped c = same-room (turn c.before.before.before.before.before.before.before) c.check_record.ensures c.requires
+shape_of-work-in-IllTyped c = let turn : Turn c.args.context c.args.tree.now c.loop-at.work c.loop-at.at c.loop-at.read c.loop-at.free c.in-Whole.len
+    = record {
+      so_far = c.loop-at.invariant;
+      inside = c.loop-at-test.true;
+      more = omega (arith, c.if-read-eq-MAX_RECORDS.false, c.loop-at.invariant.few);
+      whole = whole_length c.args.tree.now c.loop-at.at c.length_at.ensures c.in-Whole.is;
+    } in
+    same-room turn c.check_record.ensures c.requires
 
 pub returns-in-IllTyped : goal.returns-in-IllTyped
-returns-in-IllTyped c = record {
-      result_value = progress-ill (turn c.before.before.before.before.before.before.before) c.check_record.ensures c.in-IllTyped.is;
-      work_len_unchanged = same-room (turn c.before.before.before.before.before.before.before) c.check_record.ensures c.requires;
+returns-in-IllTyped c = let turn : Turn c.args.context c.args.tree.now c.loop-at.work c.loop-at.at c.loop-at.read c.loop-at.free c.in-Whole.len
+    = record {
+      so_far = c.loop-at.invariant;
+      inside = c.loop-at-test.true;
+      more = omega (arith, c.if-read-eq-MAX_RECORDS.false, c.loop-at.invariant.few);
+      whole = whole_length c.args.tree.now c.loop-at.at c.length_at.ensures c.in-Whole.is;
+    } in
+    record {
+      result_value = progress-ill turn c.check_record.ensures c.in-IllTyped.is;
+      work_len_unchanged = same-room turn c.check_record.ensures c.requires;
     }
 
 pub shape_of-work-in-TooTall : goal.shape_of-work-in-TooTall
-shape_of-work-in-TooTall c = same-room (turn c.before.before.before.before.before.before.before) c.check_record.ensures c.requires
+shape_of-work-in-TooTall c = let turn : Turn c.args.context c.args.tree.now c.loop-at.work c.loop-at.at c.loop-at.read c.loop-at.free c.in-Whole.len
+    = record {
+      so_far = c.loop-at.invariant;
+      inside = c.loop-at-test.true;
+      more = omega (arith, c.if-read-eq-MAX_RECORDS.false, c.loop-at.invariant.few);
+      whole = whole_length c.args.tree.now c.loop-at.at c.length_at.ensures c.in-Whole.is;
+    } in
+    same-room turn c.check_record.ensures c.requires
 
 pub returns-in-TooTall : goal.returns-in-TooTall
-returns-in-TooTall c = record {
-      result_value = progress-tall (turn c.before.before.before.before.before.before.before) c.check_record.ensures c.in-TooTall.is;
-      work_len_unchanged = same-room (turn c.before.before.before.before.before.before.before) c.check_record.ensures c.requires;
+returns-in-TooTall c = let turn : Turn c.args.context c.args.tree.now c.loop-at.work c.loop-at.at c.loop-at.read c.loop-at.free c.in-Whole.len
+    = record {
+      so_far = c.loop-at.invariant;
+      inside = c.loop-at-test.true;
+      more = omega (arith, c.if-read-eq-MAX_RECORDS.false, c.loop-at.invariant.few);
+      whole = whole_length c.args.tree.now c.loop-at.at c.length_at.ensures c.in-Whole.is;
+    } in
+    record {
+      result_value = progress-tall turn c.check_record.ensures c.in-TooTall.is;
+      work_len_unchanged = same-room turn c.check_record.ensures c.requires;
     }
 
 pub overflow_add-read : goal.overflow_add-read
 overflow_add-read c = omega (arith, c.loop-at.invariant.few)
 
 pub loop-at-smaller : goal.loop-at-smaller
-loop-at-smaller c = omega (arith, end_later (turn c.before.before.before.before.before.before.before.before), c.loop-at-test.true)
+loop-at-smaller c = let turn : Turn c.args.context c.args.tree.now c.loop-at.work c.loop-at.at c.loop-at.read c.loop-at.free c.in-Whole.len
+    = record {
+      so_far = c.loop-at.invariant;
+      inside = c.loop-at-test.true;
+      more = omega (arith, c.if-read-eq-MAX_RECORDS.false, c.loop-at.invariant.few);
+      whole = whole_length c.args.tree.now c.loop-at.at c.length_at.ensures c.in-Whole.is;
+    } in
+    omega (arith, end_later turn, c.loop-at-test.true)
 
 pub loop-at-preserved : goal.loop-at-preserved
-loop-at-preserved c = progress-next (turn c.before.before.before.before.before.before.before.before) c.check_record.ensures c.in-Next.is
+loop-at-preserved c = let turn : Turn c.args.context c.args.tree.now c.loop-at.work c.loop-at.at c.loop-at.read c.loop-at.free c.in-Whole.len
+    = record {
+      so_far = c.loop-at.invariant;
+      inside = c.loop-at-test.true;
+      more = omega (arith, c.if-read-eq-MAX_RECORDS.false, c.loop-at.invariant.few);
+      whole = whole_length c.args.tree.now c.loop-at.at c.length_at.ensures c.in-Whole.is;
+    } in
+    progress-next turn c.check_record.ensures c.in-Next.is
 
 pub root_type-requires : goal.root_type-requires
 root_type-requires c = (some_read c.loop-at.invariant c.if-free-eq1.true, omega (arith, c.loop-at.invariant.few, c.loop-at.invariant.room))
@@ -108,15 +159,15 @@ shape_of-work-then-free-eq1 c = ap length c.root_type.ensures.work_unchanged ∙
 
 pub returns-then-free-eq1 : goal.returns-then-free-eq1
 returns-then-free-eq1 c = record {
-      result_value = c.root_type.ensures.result_value ∙ progress-root c.loop-at.invariant c.loop-at-test.false c.if-free-eq1.true;
-      work_len_unchanged = ap length c.root_type.ensures.work_unchanged ∙ c.loop-at.invariant.room ∙ sym c.requires;
-    }
+  result_value = c.root_type.ensures.result_value ∙ progress-root c.loop-at.invariant c.loop-at-test.false c.if-free-eq1.true;
+  work_len_unchanged = ap length c.root_type.ensures.work_unchanged ∙ c.loop-at.invariant.room ∙ sym c.requires;
+}
 
 pub shape_of-work : goal.shape_of-work
 shape_of-work c = c.loop-at.invariant.room ∙ sym c.requires
 
 pub returns : goal.returns
 returns c = record {
-      result_value = progress-unused c.loop-at.invariant c.loop-at-test.false c.if-free-eq1.false;
-      work_len_unchanged = c.loop-at.invariant.room ∙ sym c.requires;
-    }
+  result_value = progress-unused c.loop-at.invariant c.loop-at-test.false c.if-free-eq1.false;
+  work_len_unchanged = c.loop-at.invariant.room ∙ sym c.requires;
+}

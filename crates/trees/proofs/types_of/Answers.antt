@@ -1,9 +1,7 @@
 -- `trees::types_of` meets its contract: the types so far, with those still to come, are all. Assumes nothing.
 use Rattle.std.proofs.Common.{rules}
-use mathlib.Core.Path.{◌≡◌, refl, ◌∙◌}
+use mathlib.Core.Path.{refl}
 use native.Mathlib.Omega.{arith}
-use lib.ListN.{length, length-set}
-use Rattle.trees.proofs.Subtrees.{types-next, types-end}
 use Rattle.trees.proofs.types_of.Goals as goal
 
 pub loop-i-init : goal.loop-i-init
