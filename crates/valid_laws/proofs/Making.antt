@@ -123,11 +123,11 @@ module _ (c : Context) where
   typed-as (Ok t) f e k p q = some_is (record { figured = p; whole = q })
   typed-as IllTyped f e k p q = none_is
 
-  made_as : (r : TypeResult) (f : Fragment) (e : ExtData) (k : Costed) → e ≡ figures_of c f → (valid c f ≡ true → Whole f)
+  made-as : (r : TypeResult) (f : Fragment) (e : ExtData) (k : Costed) → e ≡ figures_of c f → (valid c f ≡ true → Whole f)
       → IfMade Offer (made_as r f e k)
-  made_as (Ok t) f e (Costed.Cost k) p q = made_is (record { figured = p; whole = q })
-  made_as (Ok t) f e Costed.Missing p q = missing_is
-  made_as IllTyped f e k p q = passed_is
+  made-as (Ok t) f e (Costed.Cost k) p q = made_is (record { figured = p; whole = q })
+  made-as (Ok t) f e Costed.Missing p q = missing_is
+  made-as IllTyped f e k p q = passed_is
 
   figures₂ : {d e d' e' : ExtData} (rule : ExtData → ExtData → ExtData) → d ≡ d' → e ≡ e' → rule d e ≡ rule d' e'
   figures₂ rule p q = cc
@@ -218,14 +218,14 @@ module _ (c : Context) where
         → everywhere (valid_or_false c) f ≡ valid_or_false c f && (everywhere (valid_or_false c) l.tree && everywhere (valid_or_false c) r.tree)
         → IfMade Offer (made_as t f (rule l.ext r.ext) k)
     pair_of t f rule k e w =
-        made_as t f (rule l.ext r.ext) k (figures₂ rule g.figured h.figured ∙ sym e)
+        made-as t f (rule l.ext r.ext) k (figures₂ rule g.figured h.figured ∙ sym e)
         (λ v. w ∙ and_intro (own f v) (and_intro g.whole h.whole))
 
   triple-of : (x y z : Candidate) → Entry x → Entry y → Entry z → (t : TypeResult) (k : Costed)
       → IfMade Offer (made_as t (AndOr x.tree y.tree z.tree) (ext.and_or x.ext y.ext z.ext) k)
   unfolding figures_of everywhere
   triple-of x y z g h i t k =
-      made_as t (AndOr x.tree y.tree z.tree) (ext.and_or x.ext y.ext z.ext) k (figures₃ ext.and_or g.figured h.figured i.figured)
+      made-as t (AndOr x.tree y.tree z.tree) (ext.and_or x.ext y.ext z.ext) k (figures₃ ext.and_or g.figured h.figured i.figured)
       (λ v. and_intro (own (AndOr x.tree y.tree z.tree) v) (and_intro g.whole (and_intro h.whole i.whole)))
 
   -- ---- thresholds
@@ -251,7 +251,7 @@ module _ (c : Context) where
   unfolding thresh_of figures_of everywhere
   thresh k {xs} gs =
       if-valid (from_ast c 0 (threshold k (map (λ x. x.ext) xs)))
-      (made_as (type.threshold k (map (λ x. x.ty) xs)) (Thresh k (fragments xs)) (threshold k (map (λ x. x.ext) xs))
+      (made-as (type.threshold k (map (λ x. x.ty) xs)) (Thresh k (fragments xs)) (threshold k (map (λ x. x.ext) xs))
       (cost.threshold k (length xs) (map (λ x. x.cost) xs))
       (ap (threshold k) (figures-of gs)) (λ v. and_intro (own (Thresh k (fragments xs)) v) (wholes-of gs)))
 

@@ -406,7 +406,7 @@ module _ (c : Context) (Offer Entry : Candidate → Type 0) (closed : Closed c O
   fold_ands-are : {s : Searcher} {ss : List Searcher} → SearcherIs s → All SearcherIs ss → SearcherIs (fold_ands c s ss)
   unfolding fold_ands
   fold_ands-are h nobody = h
-  fold_ands-are h (k and ks) = fold_ands-are (and_searcher-is h k) ks
+  fold_ands-are {s} h (◌and◌ {x} k ks) = fold_ands-are {s = and_searcher c s x} (and_searcher-is h k) ks
 
   folded_or-keeps : {t : Table} (p : Probs) (k : ℕ) {ss : List Searcher} → All SearcherIs ss → All Entry t →
       Keeps (All Entry) (folded_or c p k ss t)
