@@ -6,14 +6,11 @@ use lib.ListN.{length}
 use Rattle.chosen.proofs.Steps.{last-too-few, last-starts, last-not, last-next, last-ends}
 use Rattle.chosen.proofs.last_are.Goals as goal
 
-wide : (c : goal.Start) → length c.args.t3 ≡ 16
-wide c = search rules
-
 pub returns-then-top-n : goal.returns-then-top-n
-returns-then-top-n c = sym (last-too-few c.args.roots.now c.args.t3 c.args.top c.args.n c.requires.0 c.requires.1 (wide c.before) c.if-top-n.true)
+returns-then-top-n c = sym (last-too-few c.args.roots.now c.args.children c.args.top c.args.n c.requires.0 c.requires.1 (search rules) c.if-top-n.true)
 
 pub loop-j-init : goal.loop-j-init
-loop-j-init c = (last-starts c.args.roots.now c.args.t3 c.args.top c.args.n, omega arith)
+loop-j-init c = (last-starts c.args.roots.now c.args.children c.args.top c.args.n, omega arith)
 
 pub overflow_add-from : goal.overflow_add-from
 overflow_add-from c = omega arith
@@ -31,7 +28,7 @@ pub bounds-children-j : goal.bounds-children-j
 bounds-children-j c = omega arith
 
 pub returns-then-roots-from : goal.returns-then-roots-from
-returns-then-roots-from c = sym (last-not c.args.roots.now c.args.t3 c.args.top c.args.n c.requires.0 c.requires.1 (wide c.before.before.before.before.before) c.loop-j.j (omega arith) c.loop-j.invariant.0 c.loop-j-test.true c.if-roots-from.true)
+returns-then-roots-from c = sym (last-not c.args.roots.now c.args.children c.args.top c.args.n c.requires.0 c.requires.1 (search rules) c.loop-j.j (omega arith) c.loop-j.invariant.0 c.loop-j-test.true c.if-roots-from.true)
 
 pub overflow_add-j : goal.overflow_add-j
 overflow_add-j c = omega arith
@@ -40,7 +37,7 @@ pub loop-j-smaller : goal.loop-j-smaller
 loop-j-smaller c = omega arith
 
 pub loop-j-preserved : goal.loop-j-preserved
-loop-j-preserved c = (last-next c.args.roots.now c.args.t3 c.args.top c.args.n c.requires.0 c.requires.1 (wide c.before.before.before.before.before) c.loop-j.j (omega arith) c.loop-j.invariant.0 c.loop-j-test.true c.if-roots-from.false, omega arith)
+loop-j-preserved c = (last-next c.args.roots.now c.args.children c.args.top c.args.n c.requires.0 c.requires.1 (search rules) c.loop-j.j (omega arith) c.loop-j.invariant.0 c.loop-j-test.true c.if-roots-from.false, omega arith)
 
 pub returns : goal.returns
-returns c = sym (last-ends c.args.roots.now c.args.t3 c.args.top c.args.n c.requires.0 c.requires.1 (wide c.before.before.before) c.loop-j.j (omega arith) c.loop-j.invariant.0 c.loop-j-test.false)
+returns c = sym (last-ends c.args.roots.now c.args.children c.args.top c.args.n c.requires.0 c.requires.1 (search rules) c.loop-j.j (omega arith) c.loop-j.invariant.0 c.loop-j-test.false)

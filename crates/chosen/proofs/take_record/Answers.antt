@@ -11,28 +11,14 @@ use Rattle.chosen.proofs.Steps.{with-short, with-unfit}
 use Rattle.chosen.proofs.Reading.{record-left, record-untaken, roots-enough, children-wide}
 use Rattle.chosen.proofs.take_record.Goals as goal
 
-abbrev start : tie.After-arity → tie.Start
-start c = c.before.before.before.before.before.before.before.before.before
-
--- what is known of the record before its children are compared
-its-record : (c : goal.After-arity-n)
-    → Found (start c).args.bytes.now c.fragment_parts-parts.result c.kind_of-kind.result c.arity-n.result
-its-record c =
-    found (start c).args.bytes.now c.fragment_parts-parts.ensures c.if-fits.true
-    c.kind_of-kind.ensures c.arity-n.ensures
-
-its-kind : (c : goal.After-arity-n) → is_short (written_kind (start c).args.bytes.now) ≡ false
-its-kind c =
-    ap is_short (sym c.written_kind.ensures) ∙ sym c.is_short.ensures ∙ c.if-is_short.false
-
 pub returns-then-is_short : goal.returns-then-is_short
 returns-then-is_short c = broken (with-short _ _ _ (ap is_short (sym c.written_kind.ensures) ∙ sym c.is_short.ensures ∙ c.if-is_short.true)) c.requires.0
 
 pub last_are-requires : goal.last_are-requires
-last_are-requires c = (omega arith, few-children (its-record c.before.before))
+last_are-requires c = (omega arith, few-children (found c.args.bytes.now c.fragment_parts-parts.ensures c.if-fits.true c.kind_of-kind.ensures c.arity-n.ensures))
 
 pub overflow_sub-left : goal.overflow_sub-left
-overflow_sub-left c = roots-enough c.args.roots.now _ c.args.top _ (omega arith) (few-children (its-record c.before.before.before.before)) (children-wide (its-record c.before.before.before.before)) (sym c.last_are.ensures ∙ c.if-last_are.true)
+overflow_sub-left c = roots-enough c.args.roots.now _ c.args.top _ (omega arith) (few-children (found c.args.bytes.now c.fragment_parts-parts.ensures c.if-fits.true c.kind_of-kind.ensures c.arity-n.ensures)) (children-wide (found c.args.bytes.now c.fragment_parts-parts.ensures c.if-fits.true c.kind_of-kind.ensures c.arity-n.ensures)) (sym c.last_are.ensures ∙ c.if-last_are.true)
 
 pub overflow_cast-roots : goal.overflow_cast-roots
 overflow_cast-roots c = omega arith
@@ -50,11 +36,11 @@ pub shape_of-roots-then-last_are : goal.shape_of-roots-then-last_are
 shape_of-roots-then-last_are c = simp length-set
 
 pub returns-then-last_are : goal.returns-then-last_are
-returns-then-last_are c = record-left c.args.roots.now c.args.top c.args.own (its-record c.before.before.before.before) (its-kind c.before.before.before.before) (omega arith) (sym c.last_are.ensures ∙ c.if-last_are.true) (omega arith)
+returns-then-last_are c = record-left c.args.roots.now c.args.top c.args.own (found c.args.bytes.now c.fragment_parts-parts.ensures c.if-fits.true c.kind_of-kind.ensures c.arity-n.ensures) (ap is_short (sym c.written_kind.ensures) ∙ sym c.is_short.ensures ∙ c.if-is_short.false) (omega arith) (sym c.last_are.ensures ∙ c.if-last_are.true) (omega arith)
     (omega arith) c.requires.0
 
 pub returns-else-last_are : goal.returns-else-last_are
-returns-else-last_are c = broken (record-untaken c.args.roots.now c.args.top c.args.own (its-record c.before.before.before.before) (its-kind c.before.before.before.before) (omega arith) (sym c.last_are.ensures ∙ c.if-last_are.false)) c.requires.0
+returns-else-last_are c = broken (record-untaken c.args.roots.now c.args.top c.args.own (found c.args.bytes.now c.fragment_parts-parts.ensures c.if-fits.true c.kind_of-kind.ensures c.arity-n.ensures) (ap is_short (sym c.written_kind.ensures) ∙ sym c.is_short.ensures ∙ c.if-is_short.false) (omega arith) (sym c.last_are.ensures ∙ c.if-last_are.false)) c.requires.0
 
 pub returns-else-fits : goal.returns-else-fits
 returns-else-fits c = broken (with-unfit _ _ _ (not_found c.args.bytes.now c.fragment_parts-parts.ensures c.if-fits.false)) c.requires.0
