@@ -9,11 +9,8 @@ use Rattle.output.proofs.Placing.{row-starts, row-goes-on, row_ends, taken-count
 use native.Mathlib.Omega.{arith}
 use Rattle.output.proofs.put_children.Goals as goal
 
-row-wide : (c : goal.Start) → length c.args.t3 ≡ 16
-row-wide c = search rules
-
 pub loop-j-init : goal.loop-j-init
-loop-j-init c = row-starts 2 (take c.args.n c.args.t3) c.args.out.now c.args.at
+loop-j-init c = row-starts 2 (take c.args.n c.args.row) c.args.out.now c.args.at
 
 pub overflow_mul-j : goal.overflow_mul-j
 overflow_mul-j c = omega arith
@@ -37,15 +34,15 @@ pub loop-j-smaller : goal.loop-j-smaller
 loop-j-smaller c = omega arith
 
 pub loop-j-preserved : goal.loop-j-preserved
-loop-j-preserved c = let wide : length c.args.t3 ≡ 16 = row-wide (c.before.before.before.before.before.before.before) in
-    row-goes-on 2 (take c.args.n c.args.t3) c.args.out.now c.args.at c.loop-j.invariant _
-    (omega (arith, taken-count c.args.t3 c.args.n wide c.requires.0))
+loop-j-preserved c = let wide : length c.args.row ≡ 16 = search rules in
+    row-goes-on 2 (take c.args.n c.args.row) c.args.out.now c.args.at c.loop-j.invariant _
+    (omega (arith, taken-count c.args.row c.args.n wide c.requires.0))
     (c.put_2.ensures
-    ∙ ap (λ v. sets c.loop-j.out (c.args.at + 2 * c.loop-j.j) (bytes_of 2 v)) (taken-read c.args.t3 c.args.n wide c.requires.0 c.loop-j.j c.loop-j-test.true))
+    ∙ ap (λ v. sets c.loop-j.out (c.args.at + 2 * c.loop-j.j) (bytes_of 2 v)) (taken-read c.args.row c.args.n wide c.requires.0 c.loop-j.j c.loop-j-test.true))
 
 pub shape_of-out : goal.shape_of-out
 shape_of-out c = c.loop-j.invariant.long
 
 pub returns : goal.returns
-returns c = let wide : length c.args.t3 ≡ 16 = row-wide (c.before.before.before) in
-    row_ends 2 (take c.args.n c.args.t3) c.args.out.now c.args.at c.loop-j.invariant (omega (arith, taken-count c.args.t3 c.args.n wide c.requires.0))
+returns c = let wide : length c.args.row ≡ 16 = search rules in
+    row_ends 2 (take c.args.n c.args.row) c.args.out.now c.args.at c.loop-j.invariant (omega (arith, taken-count c.args.row c.args.n wide c.requires.0))

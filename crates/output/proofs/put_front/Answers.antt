@@ -24,8 +24,7 @@ put_k_and_n-requires-in-57-to-58 c = (omega (arith, keys-fit c.args.pol.now c.ar
 
 pub put_keys-requires : goal.put_keys-requires
 put_keys-requires c = let low : 57 ≤ c.node-x.result.kind = omega arith in
-    let high : c.node-x.result.kind ≤ 58 = omega arith in
-    (
+    let high : c.node-x.result.kind ≤ 58 = omega arith in (
       keyed-by c.args.pol.now c.args.work.now c.args.e _ _ c.node-x.ensures c.head_of-head.ensures c.requires.readable c.requires.sound low high,
       omega (arith, simp length-sets at (ap length c.put_k_and_n-in-57-to-58.ensures), keys-fit c.args.pol.now c.args.work.now c.args.e _ _ c.node-x.ensures c.head_of-head.ensures c.args.at c.args.out.now c.requires.fits low high),
     )

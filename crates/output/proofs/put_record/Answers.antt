@@ -8,9 +8,6 @@ use Rattle.output.proofs.Placing.{record-placed, length-is-read}
 use Rattle.output.proofs.Measuring.{record-few, arity-read-few}
 use Rattle.output.proofs.put_record.Goals as goal
 
-row-wide : (c : goal.Start) → length c.args.row ≡ 16
-row-wide c = search rules
-
 pub front_of-front-requires : goal.front_of-front-requires
 front_of-front-requires c = (c.requires.readable.holds.long, c.requires.readable.good)
 
@@ -25,7 +22,7 @@ overflow_add-length-2 c = omega (arith, record-few c.args.pol.now c.args.work.no
 
 pub overflow_add-end : goal.overflow_add-end
 overflow_add-end c = let few = arity-read-few c.args.pol.now c.args.work.now c.args.e _ _ c.requires.readable.good c.front_of-front.ensures c.arity_of-n.ensures in
-    let wide : length c.args.row ≡ 16 = row-wide c.before.before.before.before.before in
+    let wide : length c.args.row ≡ 16 = search rules in
     let long = length-is-read c.args.pol.now c.args.work.now c.args.e c.args.row wide _ _ c.front_of-front.ensures c.arity_of-n.ensures few in
     omega (arith, c.requires.fits, long)
 
@@ -34,7 +31,7 @@ overflow_cast-length c = omega (arith, record-few c.args.pol.now c.args.work.now
 
 pub put_2-requires : goal.put_2-requires
 put_2-requires c = let few = arity-read-few c.args.pol.now c.args.work.now c.args.e _ _ c.requires.readable.good c.front_of-front.ensures c.arity_of-n.ensures in
-    let wide : length c.args.row ≡ 16 = row-wide c.before.before.before.before.before.before in
+    let wide : length c.args.row ≡ 16 = search rules in
     let long = length-is-read c.args.pol.now c.args.work.now c.args.e c.args.row wide _ _ c.front_of-front.ensures c.arity_of-n.ensures few in
     omega (arith, c.requires.fits, long)
 
@@ -43,25 +40,25 @@ kind_of-requires c = c.requires.readable.holds.long
 
 pub put_2-requires-2 : goal.put_2-requires-2
 put_2-requires-2 c = let few = arity-read-few c.args.pol.now c.args.work.now c.args.e _ _ c.requires.readable.good c.front_of-front.ensures c.arity_of-n.ensures in
-    let wide : length c.args.row ≡ 16 = row-wide c.before.before.before.before.before.before.before.before.before.before.before in
+    let wide : length c.args.row ≡ 16 = search rules in
     let long = length-is-read c.args.pol.now c.args.work.now c.args.e c.args.row wide _ _ c.front_of-front.ensures c.arity_of-n.ensures few in
     omega (arith, c.requires.fits, simp length-sets at (ap length c.put_2.ensures), long)
 
 pub put_front-requires : goal.put_front-requires
 put_front-requires c = let few = arity-read-few c.args.pol.now c.args.work.now c.args.e _ _ c.requires.readable.good c.front_of-front.ensures c.arity_of-n.ensures in
-    let wide : length c.args.row ≡ 16 = row-wide c.before.before.before.before.before.before.before.before.before.before.before.before.before.before.before in
+    let wide : length c.args.row ≡ 16 = search rules in
     let long = length-is-read c.args.pol.now c.args.work.now c.args.e c.args.row wide _ _ c.front_of-front.ensures c.arity_of-n.ensures few in
     record { readable = c.requires.readable; sound = c.requires.sound; fits = omega (arith, c.requires.fits, c.front_of-front.ensures.is, simp length-sets at (ap length c.put_2.ensures), simp length-sets at (ap length c.put_2-2.ensures), long) }
 
 pub put_children-requires : goal.put_children-requires
 put_children-requires c = let few = arity-read-few c.args.pol.now c.args.work.now c.args.e _ _ c.requires.readable.good c.front_of-front.ensures c.arity_of-n.ensures in
-    let wide : length c.args.row ≡ 16 = row-wide c.before.before.before.before.before.before.before.before.before.before.before.before.before.before.before.before.before.before.before in
+    let wide : length c.args.row ≡ 16 = search rules in
     let long = length-is-read c.args.pol.now c.args.work.now c.args.e c.args.row wide _ _ c.front_of-front.ensures c.arity_of-n.ensures few in
     (few, omega (arith, c.requires.fits, simp length-sets at (ap length c.put_2.ensures), simp length-sets at (ap length c.put_2-2.ensures), simp length-sets at (ap length c.put_front.ensures), long))
 
 pub returns : goal.returns
 returns c = let few = arity-read-few c.args.pol.now c.args.work.now c.args.e _ _ c.requires.readable.good c.front_of-front.ensures c.arity_of-n.ensures in
-    let wide : length c.args.row ≡ 16 = row-wide c.before.before.before.before.before.before.before.before.before.before.before.before.before.before.before.before.before.before.before.before.before.before in
+    let wide : length c.args.row ≡ 16 = search rules in
     let long = length-is-read c.args.pol.now c.args.work.now c.args.e c.args.row wide _ _ c.front_of-front.ensures c.arity_of-n.ensures few in
     record {
       to = omega (arith, long);
