@@ -21,7 +21,6 @@ use Rattle.policies.specs.Reading.{max_records, max_weight}
 use Rattle.policies.specs.Array.{policy_at, Good}
 use Rattle.policies.specs.Answers.{PolicyRead, reads, bad-array, PolicyGood}
 use Rattle.policies.specs.declared.ReadPolicy.{ReadPolicy}
-use Rattle.policies.specs.declared.ReadPolicy.TheVariants as ReadPolicy
 use Rattle.policies.proofs.Forms.{children-made}
 use Rattle.policies.proofs.Fits.{fit}
 use Rattle.policies.proofs.Sizes.{weights_in, weight-between}

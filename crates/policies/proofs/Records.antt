@@ -13,7 +13,6 @@ use Rattle.records.specs.Payloads.{Payload}
 use Rattle.records.specs.RecordForm.{record_length, kind_of, policy_payload}
 use Rattle.records.specs.Answers.{length_answer}
 use Rattle.records.specs.declared.RecordLength.{RecordLength}
-use Rattle.records.specs.declared.RecordLength.TheVariants as RecordLength
 use Rattle.records.proofs.Laws.{length-bounds, whole_length, broken-length}
 use Rattle.policies.specs.Reading.{refused, done, ◌>>=◌, Next, Slots, read_whole, read_record, read_from, read_policy, finish, or_refuse}
 use Rattle.policies.specs.Reading.{refuse_if}
@@ -21,7 +20,6 @@ use Rattle.policies.specs.Reading.{without, weighs_nothing, written}
 use Rattle.policies.specs.Array.{slots_at, Good}
 use Rattle.policies.specs.Answers.{Stepped, StepGood, step_answer, AllRead}
 use Rattle.policies.specs.declared.Step.{Step}
-use Rattle.policies.specs.declared.Step.TheVariants as Step
 use Rattle.policies.specs.declared.RecordsRead.TheVariants as RecordsRead
 
 -- ---- the first record of some bytes

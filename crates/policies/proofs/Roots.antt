@@ -15,10 +15,8 @@ use Rattle.policies.specs.Reading.{Slots, root_of, finish, read_policy}
 use Rattle.policies.specs.Array.{taken_at, count_at, record_policy, policy_at, slot_at, slots_at, Good}
 use Rattle.policies.specs.Answers.{Rooted, root, no-root, Read, PolicyRead, reads, bad-array, AllRead, RecordsGood}
 use Rattle.policies.specs.declared.RecordsRead.{RecordsRead}
-use Rattle.policies.specs.declared.RecordsRead.TheVariants as RecordsRead
 use Rattle.policies.specs.declared.ReadPolicy.{ReadPolicy}
 use Rattle.words.specs.Memory.{zeroed}
-use Rattle.policies.specs.declared.ReadPolicy.TheVariants as ReadPolicy
 use Rattle.policies.proofs.Slots.{length-slots, slot-at}
 use Rattle.policies.proofs.Views.{stored_is}
 

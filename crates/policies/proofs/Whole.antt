@@ -3,7 +3,7 @@ use mathlib.Core.Path.{◌≡◌, refl, sym, ◌∙◌, ap}
 use mathlib.Core.Bool.{Bool, true, false, cond, ◌&&◌, ◌||◌}
 use mathlib.Core.List.{List, [], ◌∷◌, ◌++◌, map}
 use mathlib.Core.Option.{Option, none, some}
-use Prim.Native.Nat.{ℕ, zero, suc, ◌+◌, ◌*◌, ◌-◌, ◌<◌, ◌≤◌}
+use Prim.Native.Nat.{ℕ, zero, suc, ◌+◌, ◌*◌, ◌<◌, ◌≤◌}
 use native.Mathlib.Omega.{arith}
 use borrow.Author.Tests.{eqb-true, eqb-false}
 use lib.Dec.{eqb}
@@ -16,7 +16,7 @@ use Rattle.records.specs.declared.Parts.{Parts}
 use Rattle.records.proofs.Laws.{fits-some, unfit-none, padded-at, length-padded}
 use Rattle.policies.specs.Policy.{Policy}
 use Rattle.policies.specs.Forms.{nth}
-use Rattle.policies.specs.Reading.{Slots, slot, if_there, without, the_policy, those, weighs_nothing, written, Next, read_whole}
+use Rattle.policies.specs.Reading.{Slots, slot, if_there, without, the_policy, those, weighs_nothing, written, read_whole}
 use Rattle.policies.specs.Array.{word_at, kind_at, child_at, taken_at, count_at, words_from, children_at, row_policy, policies, record_policy}
 use Rattle.policies.specs.Array.{slot_at, slots_at, Rows, Good}
 use Rattle.policies.specs.Answers.{Marked, Took, all, some-missing, Stepped, put_row}

@@ -8,11 +8,8 @@ use Rattle.policies.specs.Array.{row_words, array_words, word_at, taken_at, chil
 use Rattle.policies.specs.Array.{put_children}
 use Rattle.records.specs.declared.Parts.{Parts}
 use Rattle.policies.specs.declared.Step.{Step}
-use Rattle.policies.specs.declared.Step.TheVariants as Step
 use Rattle.policies.specs.declared.RecordsRead.{RecordsRead}
-use Rattle.policies.specs.declared.RecordsRead.TheVariants as RecordsRead
 use Rattle.policies.specs.declared.ReadPolicy.{ReadPolicy}
-use Rattle.policies.specs.declared.ReadPolicy.TheVariants as ReadPolicy
 
 -- ---- the children taken
 

@@ -5,9 +5,9 @@ use Rattle.records.specs.Numbers.{u16s}
 use Rattle.records.specs.Shapes.{look_up, shape_of}
 use Rattle.records.specs.Payloads.{width, payload_of}
 use Rattle.records.specs.RecordForm.{kind_of}
-use Rattle.policies.specs.Policy.{Policy, end, ◌▹◌, Key, And, Or, Thresh, from_list, depth, deepest}
+use Rattle.policies.specs.Policy.{end, ◌▹◌, Key, And, Or, Thresh, from_list, depth, deepest}
 use Rattle.policies.specs.Forms.{made}
-use Rattle.policies.specs.Reading.{Answer, refused, done, without, read_whole, read_record, root_of, finish, read_from, read_policy}
+use Rattle.policies.specs.Reading.{refused, done, without, read_whole, read_record, root_of, finish, read_from, read_policy}
 
 -- the records of key 7, of key 8, of an And of records 0 and 1, and of an Or of them
 abbrev pub key7 : List ℕ

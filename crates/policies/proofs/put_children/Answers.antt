@@ -31,3 +31,14 @@ loop-j-smaller c = omega arith
 
 pub shape_of-pol : goal.shape_of-pol
 shape_of-pol c = c.loop-j.invariant.2
+
+pub loop-j-preserved : goal.loop-j-preserved
+loop-j-preserved c = let long : length c.args.children ≡ 16 = search rules in (
+  store-next c.args.pol.now c.loop-j.pol c.args.children (40 * c.args.i + 6) c.loop-j.j c.loop-j.invariant.0 (omega (arith, long)),
+  omega arith,
+  simp length-set c.loop-j.invariant.2,
+)
+
+pub returns : goal.returns
+returns c = let long : length c.args.children ≡ 16 = search rules in
+    store-all c.args.pol.now c.loop-j.pol c.args.children c.args.i c.loop-j.j c.loop-j.invariant.0 (omega (arith, long))

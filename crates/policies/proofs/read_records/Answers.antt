@@ -26,10 +26,10 @@ returns-in-ZeroWeight c = read-zero c.args.bytes.now c.loop-at.pol c.loop-at.at 
 
 pub overflow_add-at : goal.overflow_add-at
 overflow_add-at c = omega (
-      arith,
-      (read-moves c.args.bytes.now c.loop-at.pol c.loop-at.at c.loop-at.i c.loop-at.invariant c.loop-at-test.true c.if-i-eq-MAX_RECORDS.false c.read_record.ensures
-          _ c.in-Next.is).1,
-    )
+  arith,
+  (read-moves c.args.bytes.now c.loop-at.pol c.loop-at.at c.loop-at.i c.loop-at.invariant c.loop-at-test.true c.if-i-eq-MAX_RECORDS.false c.read_record.ensures
+      _ c.in-Next.is).1,
+)
 
 pub overflow_add-i : goal.overflow_add-i
 overflow_add-i c = omega (arith, c.loop-at.invariant.few)
