@@ -5,9 +5,7 @@ use Prim.Native.Char.{code}
 use Prim.Native.String.{String}
 use Prim.Native.String.{[] as empty, ◌∷◌ as ◌then◌}
 use Rattle.numerals.specs.declared.Number32.{Number32}
-use Rattle.numerals.specs.declared.Number32.TheVariants as Number32
 use Rattle.command_line.specs.declared.Asked.{Asked}
-use Rattle.command_line.specs.declared.Asked.TheVariants as Asked
 use Rattle.command_line.specs.declared.Command.{Command}
 use Rattle.command_line.specs.declared.Command.TheVariants.{Compile, Size, Check, Script, Words, Differ, Index, At, Accept, New, Old, Unknown}
 use Rattle.command_line.specs.declared.Count.{Count}

@@ -1,14 +1,15 @@
 // The words that the console is started with, as docs/CONSOLE.md tells them. Where they are wrong, standard error says what is wrong and which are
 // right.
 //
-// The contracts cite specs/Words.antt. No contract can say which words are given, nor what is written to a descriptor.
+// The contracts cite specs/Words.antt. No contract can say which words are given, nor what is written to a file or a terminal.
 #![tactic(auto)]
 
 ghost use Rattle.std.specs.Prelude.{◌≡◌};
 ghost use Rattle.command_line.specs.Words.{Names, NamesLater, context_place, last_word, most_words, count_for, asked_of};
 
-use libc::STDERR_FILENO;
+use files::{WORD_ROOM, say, word, word_count};
 use numerals::Number32;
+use std::rt::Env;
 
 // The places of POLICY or TREE and of OUTPUT among the words.
 pub const INPUT_WORD: usize = 3;
@@ -87,75 +88,63 @@ pub enum Count {
 }
 
 // Says what the words are that name a context, files and a byte.
-fn say_files() {
-    io::write_all(
-        STDERR_FILENO,
-        b"CONTEXT is 0 for SegWit v0, 1 for Tapscript. POLICY, TREE, LEFT and RIGHT are files of records, - for standard input.\n",
+fn say_files(rt: &impl Eprint) {
+    say(
+        rt,
+        "CONTEXT is 0 for SegWit v0, 1 for Tapscript. POLICY, TREE, LEFT and RIGHT are files of records, - for standard input.\n",
     );
-    io::write_all(
-        STDERR_FILENO,
-        b"KEYS, KEYHASHES, HASHES32 and HASHES20 are files of keys and hashes, one after another. OUTPUT is a new file.\n",
+    say(
+        rt,
+        "KEYS, KEYHASHES, HASHES32 and HASHES20 are files of keys and hashes, one after another. OUTPUT is a new file.\n",
     );
-    io::write_all(
-        STDERR_FILENO,
-        b"INDEX is a file that console index wrote. BYTE is the number of a script's byte, 0 for the first.\n",
+    say(
+        rt,
+        "INDEX is a file that console index wrote. BYTE is the number of a script's byte, 0 for the first.\n",
     );
 }
 
 // Says which words are right, from those of `index` on.
-fn say_later_commands() {
-    io::write_all(
-        STDERR_FILENO,
-        b"       console index CONTEXT TREE [OUTPUT]\n",
-    );
-    io::write_all(
-        STDERR_FILENO,
-        b"       console at CONTEXT TREE INDEX BYTE\n",
-    );
-    io::write_all(
-        STDERR_FILENO,
-        b"       console accept CONTEXT POLICY TREE\n",
-    );
-    io::write_all(STDERR_FILENO, b"       console new POLICY OUTPUT\n");
-    io::write_all(STDERR_FILENO, b"       console old POLICY OUTPUT\n");
+fn say_later_commands(rt: &impl Eprint) {
+    say(rt, "       console index CONTEXT TREE [OUTPUT]\n");
+    say(rt, "       console at CONTEXT TREE INDEX BYTE\n");
+    say(rt, "       console accept CONTEXT POLICY TREE\n");
+    say(rt, "       console new POLICY OUTPUT\n");
+    say(rt, "       console old POLICY OUTPUT\n");
 }
 
 // Says what is wrong with the words, and which are right.
-fn usage(wrong: &[u8]) {
-    io::write_all(STDERR_FILENO, b"console: ");
-    io::write_all(STDERR_FILENO, wrong);
-    io::write_all(
-        STDERR_FILENO,
-        b"\nusage: console compile CONTEXT POLICY [OUTPUT]\n",
+fn usage(rt: &impl Eprint, wrong: &str) {
+    say(rt, "console: ");
+    say(rt, wrong);
+    say(rt, "\nusage: console compile CONTEXT POLICY [OUTPUT]\n");
+    say(rt, "       console size CONTEXT POLICY\n");
+    say(rt, "       console check CONTEXT TREE\n");
+    say(
+        rt,
+        "       console script [--words] CONTEXT TREE KEYS KEYHASHES HASHES32 HASHES20 [OUTPUT]\n",
     );
-    io::write_all(STDERR_FILENO, b"       console size CONTEXT POLICY\n");
-    io::write_all(STDERR_FILENO, b"       console check CONTEXT TREE\n");
-    io::write_all(
-        STDERR_FILENO,
-        b"       console script [--words] CONTEXT TREE KEYS KEYHASHES HASHES32 HASHES20 [OUTPUT]\n",
-    );
-    io::write_all(STDERR_FILENO, b"       console differ CONTEXT LEFT RIGHT\n");
-    say_later_commands();
-    say_files();
+    say(rt, "       console differ CONTEXT LEFT RIGHT\n");
+    say_later_commands(rt);
+    say_files(rt);
 }
 
 // The command that a word names, of the last five.
 fn later_command(word: &[u8]) -> Command
     ensures { NamesLater word.now result }
 {
-    if check::same(word, b"index") {
+    if word == b"index".as_slice() {
         return Command::Index;
     }
-    if check::same(word, b"at") {
+    if word == b"at".as_slice() {
         return Command::At;
     }
-    if check::same(word, b"accept") {
+    if word == b"accept".as_slice() {
         return Command::Accept;
     }
-    if check::same(word, b"new") {
+    if word == b"new".as_slice() {
         return Command::New;
     }
-    if check::same(word, b"old") {
+    if word == b"old".as_slice() {
         return Command::Old;
     }
     Command::Unknown
@@ -165,19 +154,19 @@ fn later_command(word: &[u8]) -> Command
 fn command_of(word: &[u8]) -> Command
     ensures { Names word.now result }
 {
-    if check::same(word, b"compile") {
+    if word == b"compile".as_slice() {
         return Command::Compile;
     }
-    if check::same(word, b"size") {
+    if word == b"size".as_slice() {
         return Command::Size;
     }
-    if check::same(word, b"check") {
+    if word == b"check".as_slice() {
         return Command::Check;
     }
-    if check::same(word, b"script") {
+    if word == b"script".as_slice() {
         return Command::Script;
     }
-    if check::same(word, b"differ") {
+    if word == b"differ".as_slice() {
         return Command::Differ;
     }
     later_command(word)
@@ -280,37 +269,37 @@ fn asked_in(command: Command, context: Number32) -> Asked
 }
 
 // Whether a script is to be shown word by word.
-fn words_wanted() -> bool {
-    let mut word = io::buffer();
-    let n = os::arg(2, &mut word);
-    check::same(&word[..n], b"--words")
+fn words_wanted(rt: &impl Env) -> bool {
+    let mut room = [0u8; WORD_ROOM];
+    let n = word(rt, 2, &mut room).unwrap_or(0);
+    &room[..n] == b"--words".as_slice()
 }
 
 // `Words` for a script that is to be shown word by word, else the command itself.
-fn by_words(command: Command) -> Command {
+fn by_words(rt: &impl Env, command: Command) -> Command {
     if let Command::Script = command {
-        if words_wanted() {
+        if words_wanted(rt) {
             return Command::Words;
         }
     }
     command
 }
 
-fn command_given() -> Command {
-    let mut word = io::buffer();
-    let n = os::arg(1, &mut word);
-    by_words(command_of(&word[..n]))
+fn command_given(rt: &impl Env) -> Command {
+    let mut room = [0u8; WORD_ROOM];
+    let n = word(rt, 1, &mut room).unwrap_or(0);
+    by_words(rt, command_of(&room[..n]))
 }
 
 // Whether there are as many words as a command takes; says so where not.
-fn words_suit(command: Command) -> bool {
-    match count_for(command, os::arg_count()) {
+fn words_suit<R: Env + Eprint>(rt: &R, command: Command) -> bool {
+    match count_for(command, word_count(rt)) {
         Count::TooFew => {
-            usage(b"too few words");
+            usage(rt, "too few words");
             false
         }
         Count::TooMany => {
-            usage(b"too many words");
+            usage(rt, "too many words");
             false
         }
         Count::Right => true,
@@ -318,48 +307,48 @@ fn words_suit(command: Command) -> bool {
 }
 
 // The decimal number that word i writes.
-fn number_word(i: usize) -> Number32 {
-    let mut word = io::buffer();
-    let n = os::arg(i, &mut word);
-    numerals::decimal(&word[..n])
+fn number_word(rt: &impl Env, i: usize) -> Number32 {
+    let mut room = [0u8; WORD_ROOM];
+    let n = word(rt, i, &mut room).unwrap_or(0);
+    numerals::decimal(&room[..n])
 }
 
 // The CONTEXT at a place of the words; says so where there is none.
-fn context_at(place: usize) -> Number32 {
-    let context = number_word(place);
+fn context_at<R: Env + Eprint>(rt: &R, place: usize) -> Number32 {
+    let context = number_word(rt, place);
     if let Number32::Missing = context {
-        usage(b"CONTEXT is not a decimal number up to 4294967295");
+        usage(rt, "CONTEXT is not a decimal number up to 4294967295");
     }
     context
 }
 
 // The CONTEXT of a command, 0 where it takes none; says so where the words are too few, too many, or have none.
-fn context_given(command: Command) -> Number32 {
-    if words_suit(command) {
+fn context_given<R: Env + Eprint>(rt: &R, command: Command) -> Number32 {
+    if words_suit(rt, command) {
         let place = context_place(command);
         if place == 0 {
             return Number32::Is(0);
         }
-        return context_at(place);
+        return context_at(rt, place);
     }
     Number32::Missing
 }
 
 // The BYTE that is to be looked up; says so where there is none.
-pub fn byte_given() -> Number32 {
-    let byte = number_word(BYTE_WORD);
+pub fn byte_given<R: Env + Eprint>(rt: &R) -> Number32 {
+    let byte = number_word(rt, BYTE_WORD);
     if let Number32::Missing = byte {
-        usage(b"BYTE is not a decimal number up to 4294967295");
+        usage(rt, "BYTE is not a decimal number up to 4294967295");
     }
     byte
 }
 
 // What the words ask.
-pub fn what_is_asked() -> Asked {
-    let command = command_given();
+pub fn what_is_asked<R: Env + Eprint>(rt: &R) -> Asked {
+    let command = command_given(rt);
     if let Command::Unknown = command {
-        usage(b"no command that it knows");
+        usage(rt, "no command that it knows");
         return Asked::Nothing;
     }
-    asked_in(command, context_given(command))
+    asked_in(command, context_given(rt, command))
 }

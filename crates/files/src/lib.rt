@@ -9,12 +9,10 @@ ghost use Rattle.std.specs.Io.{ReadsAtMost};
 ghost use Rattle.files.specs.Rooms.{Within, Held};
 
 use std::env::FillError;
-use std::fs;
 use std::fs::OpenOptions;
-use std::io;
 use std::io::{ErrorKind, Read, Write};
 use std::rt::{Env, Files};
-use std::str;
+use std::{fs, io, str};
 
 // The most bytes of a word, which hold any path.
 pub const WORD_ROOM: usize = 4_096;
@@ -99,10 +97,7 @@ pub fn word(rt: &impl Env, i: usize, room: &mut [u8]) -> io::Result<usize>
 pub fn path_text(path: &[u8]) -> io::Result<&str> {
     match str::from_utf8(path) {
         Ok(text) => Ok(text),
-        Err(_) => Err(io::Error::new(
-            ErrorKind::InvalidFilename,
-            "not text in UTF-8",
-        )),
+        Err(_) => Err(io::Error::new(ErrorKind::InvalidFilename, "not text in UTF-8")),
     }
 }
 
@@ -225,7 +220,10 @@ pub fn load_word<R: Env + Files + Input + Eprint>(
 
 // Writes bytes to a new file. A file that exists is left as it is; one that can't be written whole is removed.
 fn save<R: Files + Eprint>(rt: &R, path: &str, bytes: &[u8]) {
-    let made = OpenOptions::new().write(true).create_new(true).open(rt, path);
+    let made = OpenOptions::new()
+        .write(true)
+        .create_new(true)
+        .open(rt, path);
     match made {
         Ok(mut file) => {
             if let Err(e) = file.write_all(bytes) {

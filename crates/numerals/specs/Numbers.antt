@@ -3,9 +3,7 @@
 use Rattle.std.specs.Prelude.{Bool, true, cond, ◌&&◌, List, [], ◌∷◌, ℕ, ◌+◌, ◌-◌, ◌*◌, ◌^◌, leb, ltb, eqb, length}
 use Rattle.std.proofs.Math.Option.{Option, none, some}
 use Rattle.numerals.specs.declared.Number32.{Number32}
-use Rattle.numerals.specs.declared.Number32.TheVariants as Number32
 use Rattle.numerals.specs.declared.Number64.{Number64}
-use Rattle.numerals.specs.declared.Number64.TheVariants as Number64
 
 -- the value of a digit, 0 to 9 and A to F; 16 for any other sign
 abbrev pub digit : ℕ → ℕ

@@ -1,5 +1,5 @@
 // A cost as a number, on standard output: whole bytes and six decimals, cut, or with a power of ten where it is 2^64 or more.
-use libc::STDOUT_FILENO;
+use std::io;
 
 // The whole part of a number from 0 up to 2^64.
 #[derive(Clone, Copy)]
@@ -18,30 +18,23 @@ fn whole_of(x: f64) -> Whole {
 }
 
 // Writes a point and six digits.
-fn say_millionths(n: u64) -> bool {
-    let mut digits = [46u8; 7];
-    let mut rest = n;
-    let mut i: usize = 6;
-    while 0 < i {
-        digits[i] = (rest % 10) as u8 + 48;
-        rest /= 10;
-        i -= 1;
-    }
-    io::write_all(STDOUT_FILENO, &digits)
+fn say_millionths(rt: &impl Print, n: u64) -> io::Result<()> {
+    let digits = n % 1_000_000;
+    print!(rt; ".{digits:06}")
 }
 
 // Writes a number, of which the whole part is given.
-fn say_parts(whole: u64, x: f64) -> bool {
+fn say_parts(rt: &impl Print, whole: u64, x: f64) -> io::Result<()> {
     let rest = x - std::num::nearest_u64_to_f64(whole);
-    let first = io::print_decimal(STDOUT_FILENO, whole);
+    print!(rt; "{whole}")?;
     match whole_of(rest * 1000000.0) {
-        Whole::Is(n) => say_millionths(n) & first,
-        Whole::Other => first,
+        Whole::Is(n) => say_millionths(rt, n),
+        Whole::Other => Ok(()),
     }
 }
 
 // Writes a number of 2^64 or more, with its power of ten.
-fn say_large(x: f64) -> bool {
+fn say_large(rt: &impl Print, x: f64) -> io::Result<()> {
     let mut y = x;
     let mut power: u64 = 0;
     while power < 400 {
@@ -53,20 +46,19 @@ fn say_large(x: f64) -> bool {
     }
     match whole_of(y) {
         Whole::Is(n) => {
-            let first = say_parts(n, y);
-            let second = io::write_all(STDOUT_FILENO, b"e");
-            io::print_decimal(STDOUT_FILENO, power) & first & second
+            say_parts(rt, n, y)?;
+            print!(rt; "e{power}")
         }
-        Whole::Other => true,
+        Whole::Other => Ok(()),
     }
 }
 
 // Writes a space and the number whose bits are given.
-pub fn say_amount(bits: u64) -> bool {
+pub fn say_amount(rt: &impl Print, bits: u64) -> io::Result<()> {
     let x = words::float_of_word(bits);
-    let spaced = io::write_all(STDOUT_FILENO, b" ");
+    print!(rt; " ")?;
     match whole_of(x) {
-        Whole::Is(n) => say_parts(n, x) & spaced,
-        Whole::Other => say_large(x) & spaced,
+        Whole::Is(n) => say_parts(rt, n, x),
+        Whole::Other => say_large(rt, x),
     }
 }

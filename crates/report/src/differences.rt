@@ -4,6 +4,8 @@
 ghost use Rattle.std.specs.Prelude.{◌≡◌, ◌/◌, ◌<◌, length};
 ghost use Rattle.walk.specs.TreeRecords.{start_of};
 
+use std::io;
+
 // How many bytes tell a difference: the record numbers, the left one first, of four bytes each.
 const TOLD: usize = 8;
 
@@ -21,35 +23,40 @@ fn record_start(tree: &[u8], i: usize) -> usize
 }
 
 // Writes record i of a tree.
-pub fn say_record_at(tree: &[u8], i: usize) -> bool {
+pub fn say_record_at(rt: &impl Print, tree: &[u8], i: usize) -> io::Result<()> {
     let start = record_start(tree, i);
     let end = walk::record_end(tree, start);
-    crate::say_record(i, &tree[start..end])
+    crate::say_record(rt, i, &tree[start..end])
 }
 
 // The line of difference j.
-fn show_difference(left: &[u8], right: &[u8], told: &[u8], j: usize) -> bool
+fn show_difference(
+    rt: &impl Print,
+    left: &[u8],
+    right: &[u8],
+    told: &[u8],
+    j: usize,
+) -> io::Result<()>
     requires { j < length told.now / 8 }
 {
     let at = TOLD * j;
-    let first = say_record_at(left, records::u32_or_zero(told, at) as usize);
-    let parted = crate::say(b" | ");
-    let second = say_record_at(right, records::u32_or_zero(told, at + 4) as usize);
-    crate::say(b"\n") & first & parted & second
+    say_record_at(rt, left, records::u32_or_zero(told, at) as usize)?;
+    crate::say(rt, b" | ")?;
+    say_record_at(rt, right, records::u32_or_zero(told, at + 4) as usize)?;
+    crate::say(rt, b"\n")
 }
 
 // The line that says how many differences there are, and theirs.
-pub fn show_all(left: &[u8], right: &[u8], told: &[u8]) -> bool {
+pub fn show_all(rt: &impl Print, left: &[u8], right: &[u8], told: &[u8]) -> io::Result<()> {
     let count = told.len() / TOLD;
     if count == 0 {
-        return crate::say(b"differences none\n");
+        return crate::say(rt, b"differences none\n");
     }
-    let mut whole = crate::say_line(b"differences", count as u64);
+    crate::say_line(rt, b"differences", count as u64)?;
     let mut j = 0;
     while j < count {
-        let shown = show_difference(left, right, told, j);
-        whole = whole & shown;
+        show_difference(rt, left, right, told, j)?;
         j += 1;
     }
-    whole
+    Ok(())
 }

@@ -16,17 +16,17 @@ returns-then-base-d c = no_digit c.args.base c.args.word.now c.loop-i.n c.loop-i
 
 pub overflow_mul-n : goal.overflow_mul-n
 overflow_mul-n c = omega (
-      arith,
-      fits_next c.args.base c.args.word.now c.loop-i.n c.loop-i.i c.loop-i.invariant c.loop-i-test.true c.digit-d.result
-          c.if-base-d.false c.requires,
-    )
+  arith,
+  fits_next c.args.base c.args.word.now c.loop-i.n c.loop-i.i c.loop-i.invariant c.loop-i-test.true c.digit-d.result
+      c.if-base-d.false c.requires,
+)
 
 pub overflow_add-n : goal.overflow_add-n
 overflow_add-n c = omega (
-      arith,
-      fits_next c.args.base c.args.word.now c.loop-i.n c.loop-i.i c.loop-i.invariant c.loop-i-test.true c.digit-d.result
-          c.if-base-d.false c.requires,
-    )
+  arith,
+  fits_next c.args.base c.args.word.now c.loop-i.n c.loop-i.i c.loop-i.invariant c.loop-i-test.true c.digit-d.result
+      c.if-base-d.false c.requires,
+)
 
 pub overflow_add-i : goal.overflow_add-i
 overflow_add-i c = omega arith
