@@ -15,7 +15,6 @@ use Rattle.policies.specs.Array.{policy_at, child_number}
 use Rattle.policies.proofs.Views.{child-is}
 use Rattle.definition.specs.Tables.{Probs}
 use Rattle.closure.specs.declared.End.{End}
-use Rattle.closure.specs.declared.End.TheVariants as End
 use Rattle.search_state.specs.State.{flag_of, load}
 use Rattle.search_state.proofs.Chains.{paid-after}
 use Rattle.choice.specs.declared.Want.TheVariants as Want

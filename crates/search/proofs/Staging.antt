@@ -24,7 +24,6 @@ use Rattle.closure.specs.declared.End.TheVariants.{Done, Refused}
 use Rattle.closure.specs.declared.Closed.{Closed}
 use Rattle.closure.proofs.Offering.{closed}
 use Rattle.search_state.specs.declared.Out.{Out}
-use Rattle.search_state.specs.declared.Out.TheVariants as Out
 use Rattle.search_state.specs.State.{Ready, Onward, Paid, state_in, slot_table}
 use Rattle.search_state.specs.Recalled.{table_answer, IsSlot, Searched, Tabled}
 use Rattle.search_state.proofs.Growing.{onward-refl, onward-trans, onward-table, onward-holds}

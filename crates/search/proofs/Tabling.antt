@@ -3,7 +3,7 @@
 use mathlib.Core.Bool.{Bool, true, false, cond}
 use mathlib.Core.Path.{◌≡◌, refl, sym, ap, ◌∙◌, subst}
 use mathlib.Core.List.{List, [], map}
-use mathlib.Core.Option.{Option, none}
+use mathlib.Core.Option.{Option}
 use Prim.Native.Nat.{ℕ, suc, ◌-◌, ◌<◌, ◌≤◌}
 use native.Mathlib.Omega.{arith}
 use borrow.Author.Tests.{eq-eqb, ne_eqb}
@@ -34,7 +34,6 @@ use Rattle.table.specs.declared.Table as code-table
 use Rattle.table.specs.Rows.{Rows, TableHolds}
 use Rattle.table.specs.Inserted.{seen_table}
 use Rattle.closure.specs.declared.End.{End}
-use Rattle.closure.specs.declared.End.TheVariants as End
 use Rattle.closure.specs.declared.Closed.{Closed}
 use Rattle.closure.specs.Closed.{answer}
 use Rattle.search_state.specs.declared.Out.{Out}

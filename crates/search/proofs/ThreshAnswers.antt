@@ -28,7 +28,6 @@ use Rattle.closure.specs.declared.End.TheVariants.{Done, Refused}
 use Rattle.closure.specs.declared.Closed.{Closed}
 use Rattle.closure.proofs.Offering.{closed}
 use Rattle.search_state.specs.declared.Out.{Out}
-use Rattle.search_state.specs.declared.Out.TheVariants as Out
 use Rattle.search_state.specs.State.{state_in, Classed, load}
 use Rattle.search_state.specs.Recalled.{table_answer, Searched, Tabled}
 use Rattle.choice.specs.Arranged.{Gains, Arranges}

@@ -7,7 +7,6 @@ use native.Mathlib.Omega.{arith}
 use lib.ListN.{length, take, drop, set}
 use lib.Seq.{take-suc-set, length-take-le}
 use Rattle.contexts.specs.declared.Context.{Context}
-use Rattle.correctness.specs.declared.Base.TheVariants.{W}
 use Rattle.policies.specs.Policy.{Policy, from_list}
 use Rattle.policies.specs.Forms.{children_of, nth}
 use Rattle.writing.specs.WellFormed.{AllBelow}
@@ -21,7 +20,6 @@ use Rattle.nodes.specs.Views.{seen}
 use Rattle.nodes.proofs.Grown.{seen-kept}
 use Rattle.cache.specs.Slots.{slot_at, Kept}
 use Rattle.closure.specs.declared.End.{End}
-use Rattle.closure.specs.declared.End.TheVariants as End
 use Rattle.search_state.specs.declared.Out.{Out}
 use Rattle.search_state.specs.declared.Out.TheVariants.{Slot, Refused}
 use Rattle.search_state.specs.State.{state_in, Ready, Onward, Paid}
@@ -31,9 +29,7 @@ use Rattle.search_state.proofs.Chains.{paid-refl, paid-after, searched-done, sea
 use Rattle.choice.specs.Arranged.{bests_of}
 use Rattle.choice.specs.Chosen.{suits_want, chosen_seen, Chooses}
 use Rattle.choice.specs.declared.Chosen.{Chosen}
-use Rattle.choice.specs.declared.Chosen.TheVariants as Chosen
 use Rattle.choice.specs.declared.Want.{Want}
-use Rattle.choice.specs.declared.Want.TheVariants as Want
 use Rattle.search.specs.declared.Best.TheVariants as Best'
 use Rattle.search.specs.declared.Bests.{Bests}
 use Rattle.search.specs.Searching.{child_searchers, FoundBest, bests_answer, FoundBests}

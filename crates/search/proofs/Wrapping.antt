@@ -7,7 +7,7 @@ use mathlib.Core.Option.{Option, none, some}
 use Prim.Native.Nat.{ℕ, suc, ◌+◌, ◌<◌, ◌≤◌}
 use native.Mathlib.Numerals.{add-one}
 use native.Mathlib.Omega.{arith}
-use lib.ListN.{length, drop}
+use lib.ListN.{drop}
 use lib.Ieee.{Float}
 use Rattle.contexts.specs.declared.Context.{Context}
 use Rattle.policies.specs.Policy.{Policy}
@@ -17,7 +17,7 @@ use Rattle.costs.specs.declared.DissatProb.TheVariants as Prob
 use Rattle.candidates.specs.declared.Candidate as node
 use Rattle.candidates.specs.declared.Made as code
 use Rattle.candidates.specs.declared.Made.TheVariants as Made
-use Rattle.definition.specs.Candidates.{Candidate, Cast, all_casts, cast_no}
+use Rattle.definition.specs.Candidates.{Cast, all_casts, cast_no}
 use Rattle.definition.specs.Tables as definition-tables
 use Rattle.definition.specs.Tables.{Probs, probs}
 use Rattle.definition.specs.Refusals.{M, State, Stored, done, refused, then, lookup}
@@ -37,7 +37,6 @@ use Rattle.closure.specs.declared.Closed.{Closed}
 use Rattle.closure.specs.Closed.{answer, Closes}
 use Rattle.closure.proofs.Offering.{closed}
 use Rattle.search_state.specs.declared.Out.{Out}
-use Rattle.search_state.specs.declared.Out.TheVariants as Out
 use Rattle.search_state.specs.State.{Ready, Onward, Paid, flag_of, state_in, stored_all, slot_table}
 use Rattle.search_state.specs.Recalled.{table_answer, IsSlot, Searched, Tabled, settles_with}
 use Rattle.search_state.proofs.Growing.{onward-refl, onward-trans, onward-table, onward-holds, extends-onward, extends-stored}
@@ -49,10 +48,6 @@ use Rattle.search.specs.Searching.{Going, Doing, SettledIf, cast_once}
 use Rattle.search.proofs.Steps.{tabled-as, tabled-here, table_stays}
 
 -- ---- work on a table that is handed on
-
--- the work memory stays as long as it was
-pub ready-long : {pol m₀ m : List ℕ} → Ready pol m₀ → Ready pol m → length m ≡ length m₀
-ready-long h k = k.nodes.long ∙ sym h.nodes.long
 
 module _ {pol : List ℕ} {r : ℕ} {dissat : DissatProb} {c : Closed} {m₀ : List ℕ} (h : Doing pol r dissat c m₀) where
   -- after a refusal nothing is done

@@ -1,11 +1,11 @@
 -- What the functions of the search leave, by the definition (definition, specs/Search.antt) on what work memory stands for. Assumes nothing.
-use Rattle.std.specs.Prelude.{Bool, true, List, [], ◌∷◌, map, ◌≡◌, ℕ, suc, ◌<◌, ◌≤◌, Float, length, get_or, take}
+use Rattle.std.specs.Prelude.{Bool, true, List, [], ◌∷◌, map, ◌≡◌, ℕ, ◌<◌, Float, length, take}
 use Rattle.contexts.specs.declared.Context.{Context}
 use Rattle.costs.specs.declared.DissatProb.{DissatProb}
 use Rattle.costs.specs.declared.DissatProb.TheVariants as Prob
-use Rattle.costs.specs.Arithmetic.{◌⊕◌, ◌⊖◌, ◌⊗◌, ◌⊘◌, float_of, 1·}
-use Rattle.policies.specs.Policy.{Policy, Policies, from_list}
-use Rattle.policies.specs.Forms.{kind_of, number_of, k_of, left_weight_of, right_weight_of, children_of}
+use Rattle.costs.specs.Arithmetic.{◌⊕◌, ◌⊖◌, ◌⊗◌, 1·}
+use Rattle.policies.specs.Policy.{Policy, from_list}
+use Rattle.policies.specs.Forms.{kind_of, k_of, left_weight_of, right_weight_of, children_of}
 use Rattle.policies.specs.Array.{policy_at, Named}
 use Rattle.writing.specs.WellFormed.{AllBelow}
 use Rattle.candidates.specs.declared.Candidate as node
@@ -13,23 +13,18 @@ use Rattle.candidates.specs.declared.Made as code
 use Rattle.candidates.specs.declared.Made.TheVariants as Made
 use Rattle.definition.specs.Candidates.{Candidate, Cast}
 use Rattle.definition.specs.Tables.{Probs, probs, Table}
-use Rattle.definition.specs.Refusals.{M, State, Stored, Res, done, refused, then, ◌>>=◌}
-use Rattle.definition.specs.Search.{search, searchers, Searcher, leaves, inserted_if_typed, for_each, or_none, Best, bests, chosen, cheapest}
+use Rattle.definition.specs.Refusals.{M, Res, done, refused, then, ◌>>=◌}
+use Rattle.definition.specs.Search.{search, searchers, Searcher, inserted_if_typed, for_each, or_none, Best, bests, chosen, cheapest}
 use Rattle.definition_laws.specs.FormedPolicy.{FormedPolicy}
-use Rattle.definition_laws.specs.Bodies.{body_of}
 use Rattle.definition_laws.specs.Settled.{Settled}
 use Rattle.memory.specs.Layout.{node_count, table_count}
-use Rattle.nodes.specs.Views.{seen, offered}
-use Rattle.nodes.specs.Answers.{Holds}
+use Rattle.nodes.specs.Views.{seen}
 use Rattle.nodes.specs.Offers.{Offerable}
-use Rattle.cache.specs.Slots.{slot_at, Kept}
-use Rattle.table.specs.declared.Table as code-table
 use Rattle.table.specs.Rows.{TableHolds}
-use Rattle.table.specs.Inserted.{state_of, seen_table, Extends}
+use Rattle.table.specs.Inserted.{seen_table}
 use Rattle.closure.specs.declared.End.{End}
 use Rattle.closure.specs.declared.End.TheVariants.{Done, Refused}
 use Rattle.closure.specs.declared.Closed.{Closed}
-use Rattle.closure.specs.Closed.{answer}
 use Rattle.search_state.specs.State.{Classed, Ready, Onward, Room, Paid, flag_of, load, state_in, slot_table}
 use Rattle.stages.specs.declared.Ask.{Ask}
 use Rattle.stages.specs.declared.Pairing.{Pairing}

@@ -86,7 +86,7 @@ pub struct Bests {
 }
 
 // The table of the policy.
-#[cycle(all_bests_and_body_and_ors_best_of_body_cast_once_casts_of_folded_leaves_multi_or_body_pair_pair_all_search_search_all_stage_thresh_body_wrapped_wrapped_if_made)]
+#[cycle(search_cycle)]
 pub fn search(
     context: Context,
     pol: &[u64],
@@ -108,7 +108,7 @@ pub fn search(
 }
 
 // The table of the policy, made anew.
-#[cycle(all_bests_and_body_and_ors_best_of_body_cast_once_casts_of_folded_leaves_multi_or_body_pair_pair_all_search_search_all_stage_thresh_body_wrapped_wrapped_if_made)]
+#[cycle(search_cycle)]
 fn body(
     context: Context,
     pol: &[u64],
@@ -153,7 +153,7 @@ fn body(
 }
 
 // The table of a leaf.
-#[cycle(all_bests_and_body_and_ors_best_of_body_cast_once_casts_of_folded_leaves_multi_or_body_pair_pair_all_search_search_all_stage_thresh_body_wrapped_wrapped_if_made)]
+#[cycle(search_cycle)]
 fn leaves(
     context: Context,
     pol: &[u64],
@@ -207,7 +207,7 @@ fn leaves(
 }
 
 // The table of an And.
-#[cycle(all_bests_and_body_and_ors_best_of_body_cast_once_casts_of_folded_leaves_multi_or_body_pair_pair_all_search_search_all_stage_thresh_body_wrapped_wrapped_if_made)]
+#[cycle(search_cycle)]
 fn and_body(
     context: Context,
     pol: &[u64],
@@ -239,7 +239,7 @@ fn and_body(
 }
 
 // The table of an Or.
-#[cycle(all_bests_and_body_and_ors_best_of_body_cast_once_casts_of_folded_leaves_multi_or_body_pair_pair_all_search_search_all_stage_thresh_body_wrapped_wrapped_if_made)]
+#[cycle(search_cycle)]
 fn or_body(
     context: Context,
     pol: &[u64],
@@ -280,7 +280,7 @@ fn or_body(
 }
 
 // The two sides of an And, number a, beside another policy, at the weights of both.
-#[cycle(all_bests_and_body_and_ors_best_of_body_cast_once_casts_of_folded_leaves_multi_or_body_pair_pair_all_search_search_all_stage_thresh_body_wrapped_wrapped_if_made)]
+#[cycle(search_cycle)]
 fn and_ors(
     context: Context,
     pol: &[u64],
@@ -309,7 +309,7 @@ fn and_ors(
 }
 
 // A stage: its searches, then its pairings.
-#[cycle(all_bests_and_body_and_ors_best_of_body_cast_once_casts_of_folded_leaves_multi_or_body_pair_pair_all_search_search_all_stage_thresh_body_wrapped_wrapped_if_made)]
+#[cycle(search_cycle)]
 fn stage(
     context: Context,
     pol: &[u64],
@@ -364,7 +364,7 @@ fn stage(
 }
 
 // The searches, one after another.
-#[cycle(all_bests_and_body_and_ors_best_of_body_cast_once_casts_of_folded_leaves_multi_or_body_pair_pair_all_search_search_all_stage_thresh_body_wrapped_wrapped_if_made)]
+#[cycle(search_cycle)]
 fn search_all(
     context: Context,
     pol: &[u64],
@@ -402,7 +402,7 @@ fn search_all(
 }
 
 // The pairings, one after another: a table that one of them settled stays so.
-#[cycle(all_bests_and_body_and_ors_best_of_body_cast_once_casts_of_folded_leaves_multi_or_body_pair_pair_all_search_search_all_stage_thresh_body_wrapped_wrapped_if_made)]
+#[cycle(search_cycle)]
 fn pair_all(
     context: Context,
     pol: &[u64],
@@ -433,7 +433,7 @@ fn pair_all(
 
 // All candidates of one pairing, each wrapped. The casts of what the search without dissatisfaction found are offered until the table is
 // settled: from then on they would change nothing. What leaves the table as it is need not be wrapped.
-#[cycle(all_bests_and_body_and_ors_best_of_body_cast_once_casts_of_folded_leaves_multi_or_body_pair_pair_all_search_search_all_stage_thresh_body_wrapped_wrapped_if_made)]
+#[cycle(search_cycle)]
 fn pair(
     context: Context,
     pol: &[u64],
@@ -478,7 +478,7 @@ fn pair(
 }
 
 // What was made of others is wrapped, unless it was passed over.
-#[cycle(all_bests_and_body_and_ors_best_of_body_cast_once_casts_of_folded_leaves_multi_or_body_pair_pair_all_search_search_all_stage_thresh_body_wrapped_wrapped_if_made)]
+#[cycle(search_cycle)]
 fn wrapped_if_made(
     context: Context,
     pol: &[u64],
@@ -514,7 +514,7 @@ fn wrapped_if_made(
 }
 
 // The candidate x with its closure, then each cast of what the search without dissatisfaction found, unless the table is settled.
-#[cycle(all_bests_and_body_and_ors_best_of_body_cast_once_casts_of_folded_leaves_multi_or_body_pair_pair_all_search_search_all_stage_thresh_body_wrapped_wrapped_if_made)]
+#[cycle(search_cycle)]
 fn wrapped(
     context: Context,
     pol: &[u64],
@@ -552,7 +552,7 @@ fn wrapped(
 }
 
 // Each cast of what the search without dissatisfaction found.
-#[cycle(all_bests_and_body_and_ors_best_of_body_cast_once_casts_of_folded_leaves_multi_or_body_pair_pair_all_search_search_all_stage_thresh_body_wrapped_wrapped_if_made)]
+#[cycle(search_cycle)]
 fn casts_of(
     context: Context,
     pol: &[u64],
@@ -599,7 +599,7 @@ fn casts_of(
 }
 
 // One cast of what the search without dissatisfaction found.
-#[cycle(all_bests_and_body_and_ors_best_of_body_cast_once_casts_of_folded_leaves_multi_or_body_pair_pair_all_search_search_all_stage_thresh_body_wrapped_wrapped_if_made)]
+#[cycle(search_cycle)]
 fn cast_once(
     context: Context,
     pol: &[u64],
@@ -623,7 +623,7 @@ fn cast_once(
 }
 
 // The table of a Thresh.
-#[cycle(all_bests_and_body_and_ors_best_of_body_cast_once_casts_of_folded_leaves_multi_or_body_pair_pair_all_search_search_all_stage_thresh_body_wrapped_wrapped_if_made)]
+#[cycle(search_cycle)]
 fn thresh_body(
     context: Context,
     pol: &[u64],
@@ -684,7 +684,7 @@ fn child_dissat(dissat: DissatProb, ratio: f64, sat: f64) -> DissatProb
 }
 
 // The best expressions of the n children of a Thresh, each searched twice, as E and as W.
-#[cycle(all_bests_and_body_and_ors_best_of_body_cast_once_casts_of_folded_leaves_multi_or_body_pair_pair_all_search_search_all_stage_thresh_body_wrapped_wrapped_if_made)]
+#[cycle(search_cycle)]
 fn all_bests(
     context: Context,
     pol: &[u64],
@@ -737,7 +737,7 @@ fn all_bests(
 }
 
 // The best entry, of those that are wanted, of the policy's table.
-#[cycle(all_bests_and_body_and_ors_best_of_body_cast_once_casts_of_folded_leaves_multi_or_body_pair_pair_all_search_search_all_stage_thresh_body_wrapped_wrapped_if_made)]
+#[cycle(search_cycle)]
 fn best_of(
     context: Context,
     pol: &[u64],
@@ -760,7 +760,7 @@ fn best_of(
 }
 
 // k of n keys, if all children of a Thresh are keys.
-#[cycle(all_bests_and_body_and_ors_best_of_body_cast_once_casts_of_folded_leaves_multi_or_body_pair_pair_all_search_search_all_stage_thresh_body_wrapped_wrapped_if_made)]
+#[cycle(search_cycle)]
 fn multi(
     context: Context,
     pol: &[u64],
@@ -783,7 +783,7 @@ fn multi(
 }
 
 // With k = n the table is that of the Ands that a Thresh folds to.
-#[cycle(all_bests_and_body_and_ors_best_of_body_cast_once_casts_of_folded_leaves_multi_or_body_pair_pair_all_search_search_all_stage_thresh_body_wrapped_wrapped_if_made)]
+#[cycle(search_cycle)]
 fn folded(
     context: Context,
     pol: &[u64],
