@@ -1,0 +1,12 @@
+-- `moving::too_large_lem` meets its contract. Assumes nothing.
+use mathlib.Core.Path.{sym, ap, ◌∙◌}
+use Rattle.moving.specs.Moving.{exceeds}
+use Rattle.moving.proofs.Keys.{large-key, large-other}
+use Rattle.moving.proofs.too_large.Goals as goal
+
+pub returns-then-moves : goal.returns-then-moves
+returns-then-moves c = c.exceeds.ensures ∙ ap (exceeds c.args.form) c.number_of.ensures.value
+    ∙ sym (large-key c.args.form c.args.whole.now (sym c.moves.ensures ∙ c.if-moves.true))
+
+pub returns : goal.returns
+returns c = sym (large-other c.args.form c.args.whole.now (sym c.moves.ensures ∙ c.if-moves.false))
