@@ -1,0 +1,38 @@
+-- `script_leaves::put_sig_sum` meets its contract: the keys still to come are laid after those before them. Assumes nothing.
+use Rattle.script_leaves.specs.Laying.{only_keys}
+use Rattle.script_leaves.proofs.Laws.{all-coming, more-coming, none-coming, then-laid}
+use Rattle.script_leaves.proofs.Keys.{all_there, key-there, others-there, sig-first, sig-next, sig-end}
+use native.Mathlib.Omega.{arith}
+use Rattle.script_leaves.proofs.put_sig_sum.Goals as goal
+
+pub loop-j-init : goal.loop-j-init
+loop-j-init c = let t = only_keys c.args.keys.now in (
+  all-coming _ (sig-first c.args.context t c.args.bytes.now c.args.count) (omega arith) (omega arith),
+  all_there c.args.context t c.args.bytes.now c.args.count 0 c.requires,
+  omega arith,
+)
+
+pub put_key-next-requires : goal.put_key-next-requires
+put_key-next-requires c = key-there c.args.context (only_keys c.args.keys.now) c.args.bytes.now c.args.count c.loop-j.j _ c.key_at-i.ensures c.loop-j-test.true
+    c.loop-j.invariant.1
+
+pub overflow_add-j : goal.overflow_add-j
+overflow_add-j c = omega arith
+
+pub loop-j-smaller : goal.loop-j-smaller
+loop-j-smaller c = omega arith
+
+pub loop-j-preserved : goal.loop-j-preserved
+loop-j-preserved c = let t = only_keys c.args.keys.now in (
+  more-coming (sig-next c.args.context t c.args.bytes.now c.args.count c.loop-j.j c.loop-j.opcode _ c.key_at-i.ensures c.loop-j-test.true)
+      c.loop-j.invariant.0 (then-laid c.put_key-next.ensures c.put-to.ensures),
+  others-there c.args.context t c.args.bytes.now c.args.count c.loop-j.j c.loop-j-test.true c.loop-j.invariant.1,
+  omega arith,
+)
+
+pub shape_of-out : goal.shape_of-out
+shape_of-out c = c.loop-j.invariant.0.long
+
+pub returns : goal.returns
+returns c = none-coming (sig-end c.args.context (only_keys c.args.keys.now) c.args.bytes.now c.args.count c.loop-j.j c.loop-j.opcode (omega arith))
+    c.loop-j.invariant.0
