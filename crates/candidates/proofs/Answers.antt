@@ -1,6 +1,5 @@
 -- What a cast, a pair or a triple answers once its type rule has answered, and a number or a kind that is in no table. Assumes nothing.
 use mathlib.Core.Path.{◌≡◌, refl, sym, ◌∙◌}
-use mathlib.Core.List.{List, [], ◌∷◌}
 use Prim.Native.Nat.{ℕ, zero, suc, ◌<◌, ◌≤◌}
 use native.Mathlib.Omega.{arith}
 use borrow.Author.Tests.{ne_eqb}
@@ -8,20 +7,16 @@ use lib.Ieee.{Float}
 use Rattle.contexts.specs.declared.Context.{Context}
 use Rattle.types.specs.declared.«Type».{«Type»}
 use Rattle.types.specs.declared.TypeResult.{TypeResult}
-use Rattle.types.specs.declared.TypeResult.TheVariants as TypeResult
 use Rattle.types.specs.TypeRules as type
 use Rattle.figures.specs.declared.ExtData.{ExtData}
 use Rattle.figures.specs.Rules as ext
 use Rattle.costs.specs.declared.Cost.{Cost}
 use Rattle.costs.specs.declared.Costed.{Costed}
-use Rattle.costs.specs.declared.Costed.TheVariants as Costed
 use Rattle.costs.specs.Rules as cost
 use Rattle.candidates.specs.FragmentKinds.{AndOr}
 use Rattle.candidates.specs.declared.Candidate.{Candidate}
-use Rattle.candidates.specs.declared.CastResult.{CastResult}
 use Rattle.candidates.specs.declared.CastResult.TheVariants.{Cast, IllTyped, Unknown}
 use Rattle.candidates.specs.declared.Made.{Made}
-use Rattle.candidates.specs.declared.Made.TheVariants as Made
 use Rattle.candidates.specs.Candidates.{candidate}
 use Rattle.candidates.specs.Casts as casts
 use Rattle.candidates.specs.Casts.{cast_as, cast_by, cast_from, cast_of}

@@ -1,5 +1,5 @@
 -- What a cast, a pair or a triple makes of figures that have entered a table is within a candidate's bounds, one higher. Assumes nothing.
-use mathlib.Core.Path.{◌≡◌, refl, sym, ap, subst}
+use mathlib.Core.Path.{◌≡◌, subst}
 use mathlib.Core.Bool.{Bool, true, false, cond}
 use mathlib.Core.List.{List, [], ◌∷◌}
 use Prim.Native.Nat.{ℕ, zero, suc, ◌+◌}
@@ -7,9 +7,7 @@ use native.Mathlib.Omega.{arith}
 use lib.Dec.{eqb}
 use lib.Ieee.{Float}
 use Rattle.contexts.specs.declared.Context.{Context}
-use Rattle.types.specs.declared.«Type».{«Type»}
 use Rattle.types.specs.declared.TypeResult.{TypeResult}
-use Rattle.types.specs.declared.TypeResult.TheVariants as TypeResult
 use Rattle.types.specs.TypeRules as type
 use Rattle.figures.specs.declared.ExtData.{ExtData}
 use Rattle.figures.specs.Rules as ext
@@ -18,14 +16,11 @@ use Rattle.figures.specs.Bounds.{Entered}
 use Rattle.figures.proofs.Entering as entering
 use Rattle.costs.specs.declared.Cost.{Cost}
 use Rattle.costs.specs.declared.Costed.{Costed}
-use Rattle.costs.specs.declared.Costed.TheVariants as Costed
 use Rattle.costs.specs.Rules as cost
 use Rattle.candidates.specs.FragmentKinds.{AndOr}
 use Rattle.candidates.specs.declared.Candidate.{Candidate}
-use Rattle.candidates.specs.declared.CastResult.{CastResult}
-use Rattle.candidates.specs.declared.CastResult.TheVariants.{Cast, IllTyped, Unknown}
+use Rattle.candidates.specs.declared.CastResult.TheVariants.{Cast, Unknown}
 use Rattle.candidates.specs.declared.Made.{Made}
-use Rattle.candidates.specs.declared.Made.TheVariants as Made
 use Rattle.candidates.specs.Casts as casts
 use Rattle.candidates.specs.Casts.{Children, cast_as, cast_by, cast_from, cast_of}
 use Rattle.candidates.specs.Pairs as pairs

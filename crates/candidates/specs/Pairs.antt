@@ -3,18 +3,15 @@
 use Rattle.std.specs.Prelude.{cond, List, [], ◌∷◌, ℕ, eqb, Float}
 use Rattle.types.specs.declared.«Type».{«Type»}
 use Rattle.types.specs.declared.TypeResult.{TypeResult}
-use Rattle.types.specs.declared.TypeResult.TheVariants as TypeResult
 use Rattle.types.specs.TypeRules as type
 use Rattle.figures.specs.declared.ExtData.{ExtData}
 use Rattle.figures.specs.Rules as ext
 use Rattle.costs.specs.declared.Cost.{Cost}
 use Rattle.costs.specs.declared.Costed.{Costed}
-use Rattle.costs.specs.declared.Costed.TheVariants as Costed
 use Rattle.costs.specs.Rules as cost
 use Rattle.candidates.specs.FragmentKinds.{AndB, AndV, OrB, OrD, OrC, OrI, AndOr, no_child}
 use Rattle.candidates.specs.declared.Candidate.{Candidate}
 use Rattle.candidates.specs.declared.Made.{Made}
-use Rattle.candidates.specs.declared.Made.TheVariants as Made
 use Rattle.candidates.specs.Candidates.{candidate}
 
 -- a pair: its kind, and the rules for its type, its figures and its cost at the probabilities of its branches

@@ -1,3 +1,4 @@
+use native.Mathlib.Omega.{arith}
 use Rattle.candidates.specs.Pairs.{pair_from}
 use Rattle.candidates.proofs.Answers.{pair-below, pair-above}
 use Rattle.candidates.proofs.Candidate.pair.Goals as goal
@@ -27,7 +28,7 @@ unfolding pair_from
 returns-in-54 c = simp (c.in-54.is, c.or_i.ensures)
 
 pub returns-in-0-to-48 : goal.returns-in-0-to-48
-returns-in-0-to-48 c = pair-below c.args.kind c.args.l c.args.l-node c.args.r c.args.r-node c.args.lprob c.args.rprob c.in-0-to-48.if-kind-lt49-own.true
+returns-in-0-to-48 c = pair-below c.args.kind c.args.l c.args.l_node c.args.r c.args.r_node c.args.lprob c.args.rprob (omega arith)
 
 pub returns-in-55-to-65535 : goal.returns-in-55-to-65535
-returns-in-55-to-65535 c = pair-above c.args.kind c.args.l c.args.l-node c.args.r c.args.r-node c.args.lprob c.args.rprob c.in-55-to-65535.in_default-own.rest
+returns-in-55-to-65535 c = pair-above c.args.kind c.args.l c.args.l_node c.args.r c.args.r_node c.args.lprob c.args.rprob ((((((tt, λ e. omega (arith, e)), λ e. omega (arith, e)), λ e. omega (arith, e)), λ e. omega (arith, e)), λ e. omega (arith, e)), λ e. omega (arith, e))
