@@ -6,3 +6,4 @@ pub mod Andor
 pub mod Wrappers
 pub mod Thresh
 pub mod Theorem
+pub mod Smallest

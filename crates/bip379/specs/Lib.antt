@@ -3,4 +3,3 @@ pub mod Correctness
 pub mod Malleability
 pub mod Bip379
 pub mod Agreement
-pub mod Smallest
