@@ -10,7 +10,6 @@ use lib.Dec.{leb}
 use lib.ListN.{length, get_or, take, length-take, drop_of_length-le}
 use lib.Seq.{drop-cons, get_or-take, length-take-le}
 use Rattle.records.specs.declared.Shape.{Shape}
-use Rattle.records.specs.declared.Shape.TheVariants as Shape
 use Rattle.records.specs.Numbers.{u16, u16s, max_count}
 use Rattle.records.specs.Shapes.{rows}
 use Rattle.records.specs.Payloads.{Payload, nothing, number, children, threshold, keys, payload_of, number_of, k_of, count_of, children_of}

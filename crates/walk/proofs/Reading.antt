@@ -6,7 +6,6 @@ use mathlib.Core.Path.{◌≡◌, sym, ap}
 use native.Mathlib.Omega.{arith}
 use lib.ListN.{length, drop}
 use Rattle.records.specs.declared.RecordLength.{RecordLength}
-use Rattle.records.specs.declared.RecordLength.TheVariants as RecordLength
 use Rattle.records.specs.Numbers.{or_zero}
 use Rattle.records.specs.RecordForm.{record_length}
 use Rattle.records.specs.Answers.{length_answer}

@@ -7,7 +7,7 @@ use native.Mathlib.Omega.{arith}
 use lib.ListN.{length, get_or, set, drop}
 use lib.Seq.{set-append_seam, drop-cons}
 use Rattle.records.specs.Numbers.{or_zero}
-use Rattle.records.proofs.Laws.{length-bounds, whole_room}
+use Rattle.records.proofs.Laws.{length-bounds}
 use Rattle.trees.specs.Fragment.{Fragment}
 use Rattle.walk.specs.TreeRecords.{length_from, start_of, starts_of, TreeRecord, TreeRecords}
 use Rattle.walk.specs.Nodes.{Scanned}
