@@ -198,12 +198,7 @@ fn wrong_length(context: u32) -> u32
 }
 
 // Whether a tree from elsewhere stands for a policy: 0, or the number of document 02. Work memory is zero afterwards.
-pub fn claspwillow_accept(
-    context: u32,
-    policy: &[u8],
-    tree: &[u8],
-    work: &mut [u64],
-) -> u32
+pub fn claspwillow_accept(context: u32, policy: &[u8], tree: &[u8], work: &mut [u64]) -> u32
     ensures { AcceptPromise context policy.now tree.now work.old result work.new }
 {
     if work.len() == WORK_WORDS {

@@ -65,12 +65,7 @@ fn packed_type(r: Checked) -> u32
 }
 
 // The tree check: document 01's number, and in `ty` the packed type of the root, 0 on a refusal. Work memory is zero afterwards.
-pub fn claspwillow_check(
-    context: u32,
-    tree: &[u8],
-    work: &mut [u64],
-    ty: &mut u32,
-) -> u32
+pub fn claspwillow_check(context: u32, tree: &[u8], work: &mut [u64], ty: &mut u32) -> u32
     ensures { CheckPromise context tree.now work.old result ty.new work.new }
 {
     let r = trees::check(context, tree, work);

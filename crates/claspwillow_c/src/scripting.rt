@@ -23,15 +23,7 @@ pub extern "C" fn claspwillow_script(
         out.old work.old result out.new bytes.new work.new }
 {
     script_entry::claspwillow_script(
-        context,
-        tree,
-        keys,
-        key_hashes,
-        hashes32,
-        hashes20,
-        out,
-        work,
-        bytes,
+        context, tree, keys, key_hashes, hashes32, hashes20, out, work, bytes,
     )
 }
 
