@@ -184,8 +184,10 @@ module _ (log main : List ℕ) (m : Machine) where
   top i = bytes_in log (element_at main (m.main - i))
 
   -- CHECKSIGADD
-  pub add-tells : 3 ≤ m.main → leb (length (top 2)) 4 ≡ true
-      → TellsOn CHECKSIGADD log main m (λ a b. done (write (one_more b (read (top 2))) ∷ stack_of log main (m.main - 3)) a)
+  abbrev pub added : Stack → Bool → Result
+  added a b = done (write (one_more b (read (top 2))) ∷ stack_of log main (m.main - 3)) a
+
+  pub add-tells : 3 ≤ m.main → leb (length (top 2)) 4 ≡ true → TellsOn CHECKSIGADD log main m added
   unfolding recorded_step step ok
   add-tells h e c t a [] = rw (three-on log main m.main h, e)
   add-tells h e c t a (no ∷ rs) = rw (three-on log main m.main h, e, e)
@@ -212,8 +214,10 @@ module _ (log main : List ℕ) (m : Machine) where
       by false e = more (ltb m.main 2) refl (ltb-false m.main 1 e)
 
   -- time checks
-  pub time-tells : (kind : LockKind) → 1 ≤ m.main → leb (length (top 1)) 4 ≡ true
-      → TellsOn (time_word kind) log main m (λ a b. ok b (done (stack_of log main m.main) a))
+  abbrev pub timed : Stack → Bool → Result
+  timed a b = ok b (done (stack_of log main m.main) a)
+
+  pub time-tells : (kind : LockKind) → 1 ≤ m.main → leb (length (top 1)) 4 ≡ true → TellsOn (time_word kind) log main m timed
   unfolding recorded_step step ok
   time-tells After h e c t a [] = rw (one_on log main m.main h, e)
   time-tells After h e c t a (no ∷ rs) = rw (one_on log main m.main h, e, e)
