@@ -6,6 +6,8 @@ use counterexample::Told;
 use files::Loaded;
 use record_files::{ROOM, load_records};
 use report::say;
+use std::io;
+use std::rt::{Env, Files};
 use variables::Var;
 
 // Document 02's number of a tree that means something else than the policy.
@@ -15,93 +17,104 @@ const OTHER_MEANING: u32 = 26;
 const WORK_WORDS: usize = 65_536;
 
 // Writes what a variable is besides its number.
-fn say_class(class: u64) -> bool {
+fn say_class(rt: &impl Print, class: u64) -> io::Result<()> {
     match class {
-        0 => say(b"Key"),
-        1 => say(b"After"),
-        2 => say(b"Older"),
-        3 => say(b"Sha256"),
-        4 => say(b"Hash256"),
-        5 => say(b"Ripemd160"),
-        _ => say(b"Hash160"),
+        0 => say(rt, b"Key"),
+        1 => say(rt, b"After"),
+        2 => say(rt, b"Older"),
+        3 => say(rt, b"Sha256"),
+        4 => say(rt, b"Hash256"),
+        5 => say(rt, b"Ripemd160"),
+        _ => say(rt, b"Hash160"),
     }
 }
 
 // The line of a variable and of its value.
-fn say_variable(x: Var, value: bool) -> bool {
-    let classed = say_class(x.class);
-    let numbered = report::say_number(x.number);
+fn say_variable(rt: &impl Print, x: Var, value: bool) -> io::Result<()> {
+    say_class(rt, x.class)?;
+    report::say_number(rt, x.number)?;
     if value {
-        return say(b" true\n") & classed & numbered;
+        return say(rt, b" true\n");
     }
-    say(b" false\n") & classed & numbered
+    say(rt, b" false\n")
 }
 
 // A line for each variable, with its value.
-fn say_variables(told: Told) -> bool {
+fn say_variables(rt: &impl Print, told: Told) -> io::Result<()> {
     let vars = told.vars;
     let example = told.example;
     let list = vars.list;
     let n = vars.len;
-    let mut whole = true;
     let mut i = 0;
     while i < 12 {
         if i < n {
             let x = list[i];
-            let said = say_variable(x, counterexample::value_of(example, i));
-            whole = whole & said;
+            say_variable(rt, x, counterexample::value_of(example, i))?;
         }
         i += 1;
     }
-    whole
+    Ok(())
 }
 
 // The line that says which of the two holds.
-fn say_which(holds: bool) -> bool {
+fn say_which(rt: &impl Print, holds: bool) -> io::Result<()> {
     if holds {
-        return say(b"the policy holds and the tree does not with\n");
+        return say(rt, b"the policy holds and the tree does not with\n");
     }
-    say(b"the tree holds and the policy does not with\n")
+    say(rt, b"the tree holds and the policy does not with\n")
+}
+
+// The lines of an assignment under which a policy and a tree differ.
+fn say_example(rt: &impl Print, holds: bool, told: Told) -> io::Result<()> {
+    say_which(rt, holds)?;
+    say_variables(rt, told)
 }
 
 // Shows the assignment under which a policy and a tree differ, if one was found.
-fn show_example(told: Told) {
+fn show_example<R: Print + Eprint>(rt: &R, told: Told) {
     let example = told.example;
     if example.found {
-        let first = say_which(example.holds);
-        report::say_unless(say_variables(told) & first);
+        report::say_unless(rt, say_example(rt, example.holds, told));
     }
+}
+
+// The lines of a tree that is accepted.
+fn say_accepted(rt: &impl Print) -> io::Result<()> {
+    report::show_number(rt, 0)?;
+    say(rt, b"accepted: the tree means what the policy means\n")
 }
 
 // Shows that a tree is accepted.
-fn show_accepted() {
-    let first = report::show_number(0);
-    report::say_unless(say(b"accepted: the tree means what the policy means\n") & first);
+fn show_accepted<R: Print + Eprint>(rt: &R) {
+    report::say_unless(rt, say_accepted(rt));
 }
 
 // Tells whether a tree stands for a policy.
-fn accept_of(context: u32, policy: &[u8], tree: &[u8]) {
+fn accept_of<R: Print + Eprint>(rt: &R, context: u32, policy: &[u8], tree: &[u8]) {
     let mut work = [0u64; WORK_WORDS];
     let number = accept_entry::claspwillow_accept(context, policy, tree, &mut work);
     if number == 0 {
-        show_accepted();
+        show_accepted(rt);
         return;
     }
-    report::show_refusal(number);
+    report::show_refusal(rt, number);
     if number == OTHER_MEANING {
-        show_example(counterexample::example_of(context, policy, tree, &mut work));
+        show_example(
+            rt,
+            counterexample::example_of(context, policy, tree, &mut work),
+        );
     }
 }
 
 // Tells whether the tree that the words name stands for the policy that they name.
-pub fn accept(context: u32) {
+pub fn accept<R: Env + Files + Input + Print + Eprint>(rt: &R, context: u32) {
     let mut policy = [0u8; ROOM];
-    let Loaded::Bytes(p) = load_records(INPUT_WORD, &mut policy) else {
+    let Loaded::Bytes(p) = load_records(rt, INPUT_WORD, &mut policy) else {
         return;
     };
     let mut tree = [0u8; ROOM];
-    let Loaded::Bytes(t) = load_records(PROPOSED_WORD, &mut tree) else {
+    let Loaded::Bytes(t) = load_records(rt, PROPOSED_WORD, &mut tree) else {
         return;
     };
-    accept_of(context, &policy[..p], &tree[..t]);
+    accept_of(rt, context, &policy[..p], &tree[..t]);
 }

@@ -6,6 +6,7 @@ ghost use Rattle.std.specs.Prelude.{◌≤◌, length};
 use command_line::{INPUT_WORD, OUTPUT_WORD};
 use files::Loaded;
 use record_files::{ROOM, load_records};
+use std::rt::{Env, Files};
 
 // The most bytes that a tree has.
 const TREE_ROOM: usize = 557_056;
@@ -16,19 +17,26 @@ const WORK_WORDS: usize = 612_360;
 const CHECK_WORDS: usize = 4_096;
 
 // Shows the answer to a policy that is compiled, and writes its tree to the new file that the words name, if they do.
-fn show_and_save(bytes: usize, cost: u64, never: u32, nodes: u64, tree: &[u8])
+fn show_and_save<R: Env + Files + Print + Eprint>(
+    rt: &R,
+    bytes: usize,
+    cost: u64,
+    never: u32,
+    nodes: u64,
+    tree: &[u8],
+)
     requires { bytes ≤ length tree.now }
 {
-    report::show_compiled(cost, never, nodes, &tree[..bytes]);
-    if OUTPUT_WORD < os::arg_count() {
-        files::save_word(OUTPUT_WORD, b"the path", &tree[..bytes]);
+    report::show_compiled(rt, cost, never, nodes, &tree[..bytes]);
+    if OUTPUT_WORD < files::word_count(rt) {
+        files::save_word(rt, OUTPUT_WORD, "the path", &tree[..bytes]);
     }
 }
 
 // Compiles the policy that the words name and shows the answer.
-pub fn compile(context: u32) {
+pub fn compile<R: Env + Files + Input + Print + Eprint>(rt: &R, context: u32) {
     let mut policy = [0u8; ROOM];
-    let Loaded::Bytes(n) = load_records(INPUT_WORD, &mut policy) else {
+    let Loaded::Bytes(n) = load_records(rt, INPUT_WORD, &mut policy) else {
         return;
     };
     let mut tree = [0u8; TREE_ROOM];
@@ -48,17 +56,17 @@ pub fn compile(context: u32) {
         &mut nodes,
     );
     if number != 0 {
-        report::show_refusal(number);
+        report::show_refusal(rt, number);
         return;
     }
-    show_and_save(bytes as usize, cost, never, nodes, &tree);
+    show_and_save(rt, bytes as usize, cost, never, nodes, &tree);
 }
 
 // Chooses the tree of the policy that the words name, as compile does, and shows the answer but for the tree. Nothing is written, and the work memory
 // that holds the tree goes out of use.
-pub fn size(context: u32) {
+pub fn size<R: Env + Files + Input + Print + Eprint>(rt: &R, context: u32) {
     let mut policy = [0u8; ROOM];
-    let Loaded::Bytes(n) = load_records(INPUT_WORD, &mut policy) else {
+    let Loaded::Bytes(n) = load_records(rt, INPUT_WORD, &mut policy) else {
         return;
     };
     let mut work = [0u64; WORK_WORDS];
@@ -76,24 +84,24 @@ pub fn size(context: u32) {
         &mut nodes,
     );
     if number != 0 {
-        report::show_refusal(number);
+        report::show_refusal(rt, number);
         return;
     }
-    report::show_chosen(bytes, cost, never, nodes);
+    report::show_chosen(rt, bytes, cost, never, nodes);
 }
 
 // Checks the tree that the words name and shows the answer.
-pub fn check_tree(context: u32) {
+pub fn check_tree<R: Env + Files + Input + Print + Eprint>(rt: &R, context: u32) {
     let mut tree = [0u8; ROOM];
-    let Loaded::Bytes(n) = load_records(INPUT_WORD, &mut tree) else {
+    let Loaded::Bytes(n) = load_records(rt, INPUT_WORD, &mut tree) else {
         return;
     };
     let mut work = [0u64; CHECK_WORDS];
     let mut ty = 0;
     let number = claspwillow::claspwillow_check(context, &tree[..n], &mut work, &mut ty);
     if number != 0 {
-        report::show_refusal(number);
+        report::show_refusal(rt, number);
         return;
     }
-    report::show_checked(ty);
+    report::show_checked(rt, ty);
 }

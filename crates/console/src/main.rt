@@ -18,21 +18,21 @@
 
 use command_line::Asked;
 
-fn main() {
-    let asked = command_line::what_is_asked();
+fn main(rt: HostRuntime) {
+    let asked = command_line::what_is_asked(&rt);
     match asked {
-        Asked::Compile(context) => compile_command::compile(context),
-        Asked::Size(context) => compile_command::size(context),
-        Asked::Check(context) => compile_command::check_tree(context),
+        Asked::Compile(context) => compile_command::compile(&rt, context),
+        Asked::Size(context) => compile_command::size(&rt, context),
+        Asked::Check(context) => compile_command::check_tree(&rt, context),
         Asked::Script(_) => {}
         Asked::Words(_) => {}
-        Asked::Differ(context) => differ_command::differ_trees(context),
-        Asked::Index(context) => index_command::index_tree(context),
-        Asked::At(context) => index_command::find_byte(context),
-        Asked::Accept(context) => accept_command::accept(context),
-        Asked::New => move_command::to_new(),
-        Asked::Old => move_command::to_old(),
+        Asked::Differ(context) => differ_command::differ_trees(&rt, context),
+        Asked::Index(context) => index_command::index_tree(&rt, context),
+        Asked::At(context) => index_command::find_byte(&rt, context),
+        Asked::Accept(context) => accept_command::accept(&rt, context),
+        Asked::New => move_command::to_new(&rt),
+        Asked::Old => move_command::to_old(&rt),
         Asked::Nothing => {}
     }
-    script_command::write_script(asked);
+    script_command::write_script(&rt, asked);
 }

@@ -11,6 +11,7 @@ use command_line::{INPUT_WORD, RIGHT_WORD};
 use files::Loaded;
 use record_files::{ROOM, load_records};
 use report::Side;
+use std::rt::{Env, Files};
 
 // Document 01's number of a tree that is none: no lower one is about a tree.
 const BAD_TREE: u32 = 14;
@@ -39,28 +40,28 @@ fn side_of(context: u32, left: &[u8], right: &[u8], number: u32, work: &mut [u64
 }
 
 // Shows what differs between two trees, or why one is refused.
-fn differ_of(context: u32, left: &[u8], right: &[u8]) {
+fn differ_of<R: Print + Eprint>(rt: &R, context: u32, left: &[u8], right: &[u8]) {
     let mut told = [0u8; TOLD_ROOM];
     let mut work = [0u64; WORK_WORDS];
     let mut count = 0;
     let number = differ::claspwillow_differ(context, left, right, &mut told, &mut work, &mut count);
     if number != 0 {
         let side = side_of(context, left, right, number, &mut work[0..CHECK_WORDS]);
-        report::show_refusal_of(number, side);
+        report::show_refusal_of(rt, number, side);
         return;
     }
-    report::show_differences(left, right, &told[..8 * (count as usize)]);
+    report::show_differences(rt, left, right, &told[..8 * (count as usize)]);
 }
 
 // Shows what differs between the two trees that the words name.
-pub fn differ_trees(context: u32) {
+pub fn differ_trees<R: Env + Files + Input + Print + Eprint>(rt: &R, context: u32) {
     let mut left = [0u8; ROOM];
-    let Loaded::Bytes(l) = load_records(INPUT_WORD, &mut left) else {
+    let Loaded::Bytes(l) = load_records(rt, INPUT_WORD, &mut left) else {
         return;
     };
     let mut right = [0u8; ROOM];
-    let Loaded::Bytes(r) = load_records(RIGHT_WORD, &mut right) else {
+    let Loaded::Bytes(r) = load_records(rt, RIGHT_WORD, &mut right) else {
         return;
     };
-    differ_of(context, &left[..l], &right[..r]);
+    differ_of(rt, context, &left[..l], &right[..r]);
 }

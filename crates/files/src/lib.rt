@@ -190,8 +190,24 @@ fn load_path<R: Files + Eprint>(rt: &R, path: &str, too_long: &str, room: &mut [
     }
 }
 
-// Reads the whole file that word i of the command line names. `what` is what is said to have failed where that is no path. Where `dash` holds the
-// path `-` stands for standard input.
+// Reads the whole file of a path, which word i names. Where `dash` holds the path `-` stands for standard input.
+fn load<R: Env + Files + Input + Eprint>(
+    rt: &R,
+    i: usize,
+    path: &str,
+    dash: bool,
+    too_long: &str,
+    room: &mut [u8],
+) -> Loaded
+    ensures { Held (length room.new) result }
+{
+    if dash && path == "-" {
+        return load_input(rt, i, path, too_long, room);
+    }
+    load_path(rt, path, too_long, room)
+}
+
+// Reads the whole file that word i of the command line names. `what` is what is said to have failed where that is no path.
 pub fn load_word<R: Env + Files + Input + Eprint>(
     rt: &R,
     i: usize,
@@ -204,13 +220,7 @@ pub fn load_word<R: Env + Files + Input + Eprint>(
 {
     let mut letters = [0u8; WORD_ROOM];
     match path_word(rt, i, &mut letters) {
-        Ok(path) => {
-            if dash && path == "-" {
-                load_input(rt, i, path, too_long, room)
-            } else {
-                load_path(rt, path, too_long, room)
-            }
-        }
+        Ok(path) => load(rt, i, path, dash, too_long, room),
         Err(e) => {
             fail(rt, what, e);
             Loaded::Nothing

@@ -11,6 +11,7 @@ use command_line::{
 use files::Loaded;
 use record_files::{ROOM, load_records};
 use report::show_refusal;
+use std::rt::{Env, Files};
 
 // The most bytes that are read, 8,192 keys of 33 and 4,096 hashes of 32, and one more, by which a longer file is told.
 const KEYS_ROOM: usize = 270_337;
@@ -30,62 +31,71 @@ const INDEX_WORDS: usize = 16_384;
 
 // Reads the table of keys that the words name. Here and below `input` is the place of TREE among them, which is one later where the script is shown
 // word by word.
-fn load_keys(input: usize, room: &mut [u8]) -> Loaded
+fn load_keys<R: Env + Files + Input + Eprint>(rt: &R, input: usize, room: &mut [u8]) -> Loaded
     requires { input ≤ 4 }
     ensures { Held (length room.new) result }
 {
     files::load_word(
+        rt,
         input + KEYS_AFTER,
-        b"the path",
+        "the path",
         true,
-        b": longer than 270336 bytes, 8192 keys of 33 bytes\n",
+        ": longer than 270336 bytes, 8192 keys of 33 bytes\n",
         room,
     )
 }
 
 // Reads the table of hashes that word i names.
-fn load_hashes(i: usize, room: &mut [u8]) -> Loaded
+fn load_hashes<R: Env + Files + Input + Eprint>(rt: &R, i: usize, room: &mut [u8]) -> Loaded
     ensures { Held (length room.new) result }
 {
     files::load_word(
+        rt,
         i,
-        b"the path",
+        "the path",
         true,
-        b": longer than 131072 bytes, 4096 hashes of 32 bytes\n",
+        ": longer than 131072 bytes, 4096 hashes of 32 bytes\n",
         room,
     )
 }
 
 // Shows a script word by word, with the records that the words belong to.
-fn show_by_index(context: u32, tree: &[u8], script: &[u8]) {
+fn show_by_index<R: Print + Eprint>(rt: &R, context: u32, tree: &[u8], script: &[u8]) {
     let mut index = [0u8; INDEX_ROOM];
     let mut work = [0u64; INDEX_WORDS];
     let mut bytes = 0;
     let number = index_entry::claspwillow_index(context, tree, &mut index, &mut work, &mut bytes);
     if number != 0 {
-        show_refusal(number);
+        show_refusal(rt, number);
         return;
     }
-    script_view::show_words(tree, &index[..bytes as usize], script);
+    script_view::show_words(rt, tree, &index[..bytes as usize], script);
 }
 
 // Shows a script, and writes it to the new file that the words name, if they do.
-fn show_and_save(context: u32, tree: &[u8], script: &[u8], input: usize)
+fn show_and_save<R: Env + Files + Print + Eprint>(
+    rt: &R,
+    context: u32,
+    tree: &[u8],
+    script: &[u8],
+    input: usize,
+)
     requires { input ≤ 4 }
 {
     if input == WORDS_INPUT_WORD {
-        show_by_index(context, tree, script);
+        show_by_index(rt, context, tree, script);
     } else {
-        report::show_script(script);
+        report::show_script(rt, script);
     }
     let output = input + SCRIPT_AFTER;
-    if output < os::arg_count() {
-        files::save_word(output, b"the path", script);
+    if output < files::word_count(rt) {
+        files::save_word(rt, output, "the path", script);
     }
 }
 
 // Writes the script of a tree with these tables and shows the answer.
-fn script_of(
+fn script_of<R: Env + Files + Print + Eprint>(
+    rt: &R,
     context: u32,
     tree: &[u8],
     keys: &[u8],
@@ -111,29 +121,36 @@ fn script_of(
         &mut bytes,
     );
     if number != 0 {
-        show_refusal(number);
+        show_refusal(rt, number);
         return;
     }
-    show_and_save(context, tree, &script[..bytes as usize], input);
+    show_and_save(rt, context, tree, &script[..bytes as usize], input);
 }
 
 // The same with the tables of hashes that the words name.
-fn script_with_keys(context: u32, tree: &[u8], keys: &[u8], input: usize)
+fn script_with_keys<R: Env + Files + Input + Print + Eprint>(
+    rt: &R,
+    context: u32,
+    tree: &[u8],
+    keys: &[u8],
+    input: usize,
+)
     requires { input ≤ 4 }
 {
     let mut key_hashes = [0u8; HASHES_ROOM];
-    let Loaded::Bytes(h) = load_hashes(input + KEY_HASHES_AFTER, &mut key_hashes) else {
+    let Loaded::Bytes(h) = load_hashes(rt, input + KEY_HASHES_AFTER, &mut key_hashes) else {
         return;
     };
     let mut hashes32 = [0u8; HASHES_ROOM];
-    let Loaded::Bytes(l) = load_hashes(input + HASHES32_AFTER, &mut hashes32) else {
+    let Loaded::Bytes(l) = load_hashes(rt, input + HASHES32_AFTER, &mut hashes32) else {
         return;
     };
     let mut hashes20 = [0u8; HASHES_ROOM];
-    let Loaded::Bytes(s) = load_hashes(input + HASHES20_AFTER, &mut hashes20) else {
+    let Loaded::Bytes(s) = load_hashes(rt, input + HASHES20_AFTER, &mut hashes20) else {
         return;
     };
     script_of(
+        rt,
         context,
         tree,
         keys,
@@ -145,18 +162,18 @@ fn script_with_keys(context: u32, tree: &[u8], keys: &[u8], input: usize)
 }
 
 // Writes the script of the tree at this place of the words, with the tables that follow it there, and shows the answer.
-fn script_from(context: u32, input: usize)
+fn script_from<R: Env + Files + Input + Print + Eprint>(rt: &R, context: u32, input: usize)
     requires { input ≤ 4 }
 {
     let mut tree = [0u8; ROOM];
-    let Loaded::Bytes(t) = load_records(input, &mut tree) else {
+    let Loaded::Bytes(t) = load_records(rt, input, &mut tree) else {
         return;
     };
     let mut keys = [0u8; KEYS_ROOM];
-    let Loaded::Bytes(k) = load_keys(input, &mut keys) else {
+    let Loaded::Bytes(k) = load_keys(rt, input, &mut keys) else {
         return;
     };
-    script_with_keys(context, &tree[..t], &keys[..k], input);
+    script_with_keys(rt, context, &tree[..t], &keys[..k], input);
 }
 
 // Where a script that is asked for comes from: its context, and the place of TREE among the words.
@@ -202,11 +219,11 @@ fn place_of(asked: Asked) -> Place
 
 // Writes the script that the words ask for, if they do, and shows its bytes, or its words. The two commands share one call, so that the rooms of a
 // script lie where those of the other commands do.
-pub fn write_script(asked: Asked) {
+pub fn write_script<R: Env + Files + Input + Print + Eprint>(rt: &R, asked: Asked) {
     let place = place_of(asked);
     let context = place.context;
     let input = place.input;
     if place.asked {
-        script_from(context, input);
+        script_from(rt, context, input);
     }
 }
