@@ -2,4 +2,3 @@
 //
 // specs/Compiled.antt states it; proofs/Compiling.antt proves it.
 #![tactic(auto)]
-

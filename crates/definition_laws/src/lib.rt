@@ -2,4 +2,3 @@
 // what compile writes is a well-typed tree of base B, safe and non-malleable, that passes the tree check. proofs/Steps.antt unfolds the definition
 // case by case, so that code can be proved against it while it stays shut.
 #![tactic(auto)]
-

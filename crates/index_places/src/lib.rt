@@ -3,4 +3,3 @@
 // specs/Sizes.antt says how many bytes a fragment has, specs/Places.antt where each record stands, and specs/Laws.antt what is proved of both in
 // proofs/.
 #![tactic(auto)]
-

@@ -2,4 +2,3 @@
 //
 // specs/Meaning.antt has the meanings, specs/CompileMeans.antt that what compile writes means its policy; proofs/ shows it.
 #![tactic(auto)]
-

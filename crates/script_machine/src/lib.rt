@@ -3,4 +3,3 @@
 // A theory with no code. Its definitions are in specs/ (Numbers, Words, Machine, Translation, Demand3, OtherBases, Merged, WorkedRuns)
 // and its proofs in proofs/.
 #![tactic(auto)]
-

@@ -3,4 +3,3 @@
 //
 // specs/AnyInsertion.antt has the search over any way of inserting a candidate, specs/AsBefore.antt the two ways that were meant and what is proved.
 #![tactic(auto)]
-

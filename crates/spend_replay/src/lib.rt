@@ -2,4 +2,3 @@
 //
 // A theory with no code. Its definitions are in specs/ (Replay; Laws for what is proved of them) and its proofs in proofs/.
 #![tactic(auto)]
-
