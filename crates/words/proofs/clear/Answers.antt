@@ -25,10 +25,10 @@ loop-i-smaller c = omega arith
 
 pub loop-i-preserved : goal.loop-i-preserved
 loop-i-preserved c = let h : c.loop-i.i < length c.args.work.now = omega arith in (
-      ap (λ (l : List ℕ). set l c.loop-i.i 0) c.loop-i.invariant.0 ∙ fill_more c.loop-i.i 0 c.args.work.now h,
-      length-set c.loop-i.work c.loop-i.i 0 ∙ c.loop-i.invariant.1,
-      omega arith,
-    )
+  ap (λ (l : List ℕ). set l c.loop-i.i 0) c.loop-i.invariant.0 ∙ fill_more c.loop-i.i 0 c.args.work.now h,
+  length-set c.loop-i.work c.loop-i.i 0 ∙ c.loop-i.invariant.1,
+  omega arith,
+)
 
 pub shape_of-work : goal.shape_of-work
 shape_of-work c = c.loop-i.invariant.1

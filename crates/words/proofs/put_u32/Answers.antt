@@ -39,9 +39,9 @@ bounds-s-at-then-has_bytes-3 c = simp length-set (omega (arith, within c))
 
 pub returns-then-has_bytes : goal.returns-then-has_bytes
 returns-then-has_bytes c = record {
-      value = sym (there c);
-      s_after = written_4 c.args.s.now c.args.at c.args.v (there c) (search rules);
-    }
+  value = sym (there c);
+  s_after = written_4 c.args.s.now c.args.at c.args.v (there c) (search rules);
+}
 
 pub returns : goal.returns
 returns c = let absent = sym c.has_bytes.ensures ∙ c.if-has_bytes.false in
