@@ -6,7 +6,6 @@ use native.Mathlib.Omega.{arith}
 use native.Mathlib.Nat.{div-one, div-div-eq-div-mul, pow-suc}
 use lib.Dec.{eqb}
 use Rattle.truth.specs.Words.{bit_at}
-use Rattle.counterexample.specs.declared.Apart.{Apart}
 use Rattle.counterexample.specs.Example.{ApartAt}
 
 -- ---- a word halved again and again

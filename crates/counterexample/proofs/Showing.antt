@@ -1,6 +1,6 @@
 -- An assignment that is found shows a difference. Assumes nothing.
 use Prim.Native.Nat.{ℕ, ◌<◌}
-use mathlib.Core.Bool.{Bool, true, false, not}
+use mathlib.Core.Bool.{false}
 use mathlib.Core.List.{List}
 use mathlib.Core.Path.{◌≡◌, refl, sym, ap, subst, ◌∙◌}
 use mathlib.Core.Option.{some}
@@ -12,10 +12,8 @@ use Rattle.policies.specs.Reading.{read_policy}
 use Rattle.policies.specs.Array.{policy_at}
 use Rattle.policies.specs.Answers.{policy_answer, PolicyRead, reads, bad-array, Read}
 use Rattle.policies.specs.declared.ReadPolicy.{ReadPolicy}
-use Rattle.policies.specs.declared.ReadPolicy.TheVariants as ReadPolicy
 use Rattle.types.specs.declared.«Type».{«Type»}
 use Rattle.trees.specs.declared.Checked.{Checked}
-use Rattle.trees.specs.declared.Checked.TheVariants as Checked
 use Rattle.trees.specs.Checked.{answer_of, type_only}
 use Rattle.trees.specs.Fragment.{Fragment}
 use Rattle.trees.specs.Reading.{done, max_records}

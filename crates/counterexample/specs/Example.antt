@@ -1,5 +1,5 @@
 -- An assignment under which a policy and a fragment tree differ: document 02, R-14, 'for every assignment', of which one fails.
-use Rattle.std.specs.Prelude.{ℕ, ◌<◌, Bool, true, not, List, ◌≡◌}
+use Rattle.std.specs.Prelude.{ℕ, ◌<◌, true, not, List, ◌≡◌}
 use Rattle.policies.specs.Policy.{Policy}
 use Rattle.trees.specs.Fragment.{Fragment}
 use Rattle.meaning.specs.Meaning.{policy_means, tree_means}
