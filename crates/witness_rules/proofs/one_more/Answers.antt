@@ -1,0 +1,11 @@
+use Rattle.witness_rules.proofs.Bounds.{loose}
+use Rattle.witness_rules.proofs.one_more.Goals as goal
+
+pub and-requires : goal.and-requires
+and-requires c = (c.requires.1, loose c.requires.0.satisfied)
+
+pub and-requires-2 : goal.and-requires-2
+and-requires-2 c = (c.requires.2, loose c.requires.0.dissatisfied)
+
+pub returns : goal.returns
+returns c = simp (c.and.ensures, c.and-2.ensures, c.or.ensures)
