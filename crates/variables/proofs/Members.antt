@@ -1,5 +1,5 @@
 -- Lists of variables as sets: members, distinct ones, and that so many distinct ones fit into no shorter list. Assumes nothing.
-use Prim.Native.Nat.{ℕ, suc, ◌+◌, ◌≤◌, ◌<◌}
+use Prim.Native.Nat.{ℕ, suc, ◌≤◌}
 use mathlib.Core.Bool.{Bool, true, false, cond, ◌&&◌, ◌||◌}
 use mathlib.Core.List.{List, [], ◌∷◌, ◌++◌, map}
 use mathlib.Core.Path.{◌≡◌, refl, sym, ap, subst, ◌∙◌}
@@ -10,7 +10,7 @@ use lib.ListN.{length}
 use Rattle.contexts.specs.Leaves.{After, Older, Sha256, Hash256, Ripemd160, Hash160}
 use Rattle.meaning.specs.Meaning.{Variable, key, lock, hash}
 use Rattle.variables.specs.Variables.{class_of, number_of, same, member}
-use Rattle.variables.specs.Gathering.{code, code_of, has_code, Distinct, none, more}
+use Rattle.variables.specs.Gathering.{code_of, has_code, Distinct, none, more}
 
 -- ---- bools
 

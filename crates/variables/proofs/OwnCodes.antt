@@ -1,14 +1,13 @@
 -- The variables that stand in a record, read from its bytes. Assumes nothing.
-use Prim.Native.Nat.{ℕ, zero, suc, ◌+◌, ◌*◌, ◌-◌, ◌≤◌, ◌<◌}
-use mathlib.Core.Bool.{true, false}
+use Prim.Native.Nat.{ℕ, zero, suc, ◌+◌, ◌*◌, ◌≤◌, ◌<◌}
 use mathlib.Core.List.{List, [], ◌∷◌, ◌++◌, map, append_assoc}
-use mathlib.Core.Option.{Option, some}
+use mathlib.Core.Option.{some}
 use mathlib.Core.Path.{◌≡◌, refl, sym, ap, subst, ◌∙◌}
 use native.Mathlib.Nat.{mul-zero, mul-suc}
 use native.Mathlib.Omega.{arith}
 use native.Mathlib.Numerals.{add-one}
 use borrow.Author.Tests.{le-leb, lt-leb}
-use lib.ListN.{length, take, drop, set, get_or, length-set, length-map, get_or-map}
+use lib.ListN.{length, take, set, get_or, length-set, length-map, get_or-map}
 use lib.Seq.{take-suc-set, take-suc, get_or-take, length-take-le, take_all}
 use Rattle.records.specs.Numbers.{numbers_at}
 use Rattle.records.specs.Payloads.{Payload, keys, number_of, count_of, keys_of, width, k_in, key_at, first_keys, keys_in, count_in}
@@ -24,13 +23,12 @@ use Rattle.trees.specs.Fragment.{Fragment, False, True, PkK, PkH, Lock, Hash}
 use Rattle.trees.specs.Fragment.{Alt, Swap, Check, DupIf, Verify, NonZero, ZeroNotEqual}
 use Rattle.trees.specs.Fragment.{AndB, AndV, OrB, OrD, OrC, OrI, AndOr, Thresh, Multi, MultiA}
 use Rattle.walk.specs.TreeRecords.{record_at, fragment_at, TreeRecord}
-use Rattle.walk.specs.Heads.{Head, head_of, head_with, head_in}
+use Rattle.walk.specs.Heads.{head_of, head_with, head_in}
 use Rattle.walk.proofs.HeadLaws.{head_at}
 use Rattle.meaning.specs.Meaning.{Variable, key}
 use Rattle.variables.specs.declared.Var.{Var}
 use Rattle.variables.specs.declared.Vars.{Vars}
 use Rattle.variables.specs.declared.Own.{Own}
-use Rattle.variables.specs.Variables.{max_variables}
 use Rattle.variables.specs.Gathering.{code, code_of, Roomy, add_code, Gathered, own_variables, class_in, key_code, codes_in, OwnIs, Fits}
 use Rattle.variables.proofs.Rows.{gathered-add}
 

@@ -1,8 +1,8 @@
 -- The row of variables met so far, as one more is met. Assumes nothing.
 use Prim.Native.Nat.{ℕ, suc, ◌+◌, ◌≤◌, ◌<◌}
-use mathlib.Core.Bool.{Bool, true, false, cond, ◌||◌}
+use mathlib.Core.Bool.{Bool, true, false, ◌||◌}
 use mathlib.Core.List.{List, [], ◌∷◌, ◌++◌, map}
-use mathlib.Core.Path.{◌≡◌, refl, sym, ap, subst, ◌∙◌}
+use mathlib.Core.Path.{◌≡◌, refl, sym, ap, ◌∙◌}
 use native.Mathlib.Omega.{arith}
 use native.Mathlib.Numerals.{add-one}
 use borrow.Author.Tests.{eqb-true, eqb-false, eq-eqb, ne_eqb}
@@ -14,9 +14,9 @@ use Rattle.trees.specs.Fragment.{Fragment}
 use Rattle.meaning.specs.Meaning.{Variable}
 use Rattle.variables.specs.declared.Var.{Var}
 use Rattle.variables.specs.declared.Vars.{Vars}
-use Rattle.variables.specs.Variables.{member, max_variables, policy_variables, tree_variables, FewVariables}
-use Rattle.variables.specs.Gathering.{code, code_of, same_code, has_code, row_of, Roomy, add_code, Distinct, none, more, Gathered, within, beyond, Found}
-use Rattle.variables.proofs.Members.{or_left, or_right, member-append, member-one, member-again, has-member, distinct_snoc, no-shorter}
+use Rattle.variables.specs.Variables.{member, policy_variables, tree_variables, FewVariables}
+use Rattle.variables.specs.Gathering.{code, code_of, same_code, has_code, row_of, Roomy, add_code, none, Gathered, within, beyond, Found}
+use Rattle.variables.proofs.Members.{or_left, member-append, member-again, has-member, distinct_snoc, no-shorter}
 
 map_snoc : (vs : List Variable) (v : Variable) → map code_of (vs ++ (v ∷ [])) ≡ map code_of vs ++ (code_of v ∷ [])
 map_snoc [] v = refl

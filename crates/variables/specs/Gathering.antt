@@ -1,6 +1,6 @@
 -- Variables as values of the code: each is a class and a number, and the distinct ones met so far stand in a row of twelve.
 use Rattle.std.specs.Prelude.{ℕ, ◌+◌, ◌-◌, ◌≤◌, ◌<◌, Bool, true, false, cond, ◌&&◌, ◌||◌, List, [], ◌∷◌, ◌++◌, map, ◌≡◌, eqb, leb, length, take, set}
-use Rattle.std.proofs.Math.Option.{Option, some}
+use Rattle.std.proofs.Math.Option.{some}
 use Rattle.records.specs.Numbers.{between}
 use Rattle.records.specs.Payloads.{Payload}
 use Rattle.records.specs.RecordForm.{fragment_payload}
