@@ -1,5 +1,5 @@
 -- Work memory is filled with figures record by record, children first, as long as each is locally valid. Assumes nothing.
-use Prim.Native.Nat.{ℕ, zero, suc, ◌+◌, ◌*◌, ◌-◌, ◌≤◌, ◌<◌}
+use Prim.Native.Nat.{ℕ, ◌+◌, ◌*◌, ◌-◌, ◌≤◌, ◌<◌}
 use mathlib.Core.Bool.{Bool, true, false}
 use mathlib.Core.List.{List, map, ◌++◌}
 use mathlib.Core.Option.{Option, none, some}
@@ -24,17 +24,17 @@ use Rattle.figures.specs.Validity.{check_local_validity}
 use Rattle.figures.proofs.Entering.{candidate-small, valid-entered, entered-higher}
 use Rattle.trees.specs.Fragment.{Fragment}
 use Rattle.walk.specs.TreeRecords.{length_from, record_at, fragment_at, TreeRecord, TreeRecords, Told}
-use Rattle.walk.specs.Heads.{Head, head_of, head_with, head_in}
+use Rattle.walk.specs.Heads.{Head, head_of, head_with}
 use Rattle.walk.proofs.HeadLaws.{head_at}
 use Rattle.walk.proofs.KindLaws.{threshold-bounds}
 use Rattle.variables.proofs.Walking.{On, begins, some_left, all-walked, its-row, its-bytes, its-payload, next}
 use Rattle.definition_laws.specs.Laws.{figures_of}
-use Rattle.figure_rules.specs.ByKind.{blank, child, figures_by, Ready}
-use Rattle.figure_rules.proofs.Making.{blank-entered, makes, makes-small}
+use Rattle.figure_rules.specs.ByKind.{child, figures_by, Ready}
+use Rattle.figure_rules.proofs.Making.{blank-entered, makes}
 use Rattle.tree_figures.specs.LocallyValid.{valid, all_valid}
-use Rattle.tree_figures.specs.Memory.{figure_words, figures_at, put_figures, Loaded, figures_with, figures_here, Stands}
+use Rattle.tree_figures.specs.Memory.{figure_words, figures_at, put_figures, Loaded, figures_here, Stands}
 use Rattle.tree_figures.proofs.Words.{put-long, put_same, put-before}
-use Rattle.tree_figures.proofs.Loading.{number_is, loaded-child, loaded-all}
+use Rattle.tree_figures.proofs.Loading.{loaded-child, loaded-all}
 use Rattle.tree_figures.proofs.Steps.{same-figures, record-figures}
 use Rattle.tree_figures.proofs.Everywhere.{all-records, somewhere-not}
 

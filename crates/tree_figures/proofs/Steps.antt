@@ -1,8 +1,8 @@
 -- The figures of a fragment from those of its children, and of a record from those of the records before it. Assumes nothing.
-use Prim.Native.Nat.{ℕ, zero, suc, ◌+◌, ◌≤◌, ◌<◌}
+use Prim.Native.Nat.{ℕ, suc, ◌+◌, ◌<◌}
 use mathlib.Core.Bool.{Bool, true, false}
 use mathlib.Core.List.{List, [], ◌∷◌, map}
-use mathlib.Core.Option.{Option, none, some}
+use mathlib.Core.Option.{Option}
 use mathlib.Core.Path.{◌≡◌, refl, sym, ap, ◌∙◌}
 use native.Mathlib.Omega.{arith}
 use borrow.Author.Tests.{eqb-true}
@@ -10,15 +10,15 @@ use lib.Dec.{eqb}
 use lib.ListN.{length, get_or, take, length-map}
 use Rattle.records.specs.Payloads as payload
 use Rattle.records.specs.Payloads.{Payload, number_of, k_of, count_of, children_of, keys_of}
-use Rattle.records.specs.RecordForm.{kind_of, fragment_payload}
+use Rattle.records.specs.RecordForm.{kind_of}
 use Rattle.contexts.specs.declared.Context.{Context}
 use Rattle.contexts.specs.Leaves.{After, Older, Sha256, Hash256, Ripemd160, Hash160}
-use Rattle.trees.specs.Fragment.{Fragment, Fragments, end, ◌▹◌, to_list, False, True, PkK, PkH, Lock, Hash}
+use Rattle.trees.specs.Fragment.{Fragments, end, ◌▹◌, to_list, False, True, PkK, PkH, Lock, Hash}
 use Rattle.trees.specs.Fragment.{Alt, Swap, Check, DupIf, Verify, NonZero, ZeroNotEqual}
 use Rattle.trees.specs.Fragment.{AndB, AndV, OrB, OrD, OrC, OrI, AndOr, Thresh, Multi, MultiA}
 use Rattle.trees.specs.Tree.{find}
 use Rattle.walk.specs.TreeRecords.{record_at, fragment_at, TreeRecord}
-use Rattle.walk.specs.Heads.{Head, head_of, children_in, head_with, head_in}
+use Rattle.walk.specs.Heads.{Head, head_of, children_in, head_with}
 use Rattle.walk.specs.Folds.{ByChildren}
 use Rattle.walk.proofs.FoldLaws.{value-at}
 use Rattle.figures.specs.declared.ExtData.{ExtData}

@@ -2,16 +2,15 @@
 use Prim.Native.Nat.{ℕ, zero, suc, ◌+◌, ◌*◌, ◌-◌, ◌≤◌, ◌<◌}
 use mathlib.Core.Bool.{Bool, true, false}
 use mathlib.Core.List.{List, [], ◌∷◌, ◌++◌, append_assoc}
-use mathlib.Core.Path.{◌≡◌, refl, sym, ap, subst, ◌∙◌}
+use mathlib.Core.Path.{◌≡◌, refl, sym, ap, ◌∙◌}
 use native.Mathlib.Omega.{arith}
 use native.Mathlib.Numerals.{add-one}
 use lib.ListN.{length, get_or, take, drop, set, length-append, length-drop, length-set}
-use lib.Seq.{length-take-le, take_at, drop_at, take-append-le, drop-append-le, drop-drop, take-take, drop-cons, set-append_seam, take-suc, set_at, take-nil}
+use lib.Seq.{length-take-le, take_at, drop_at, take-append-le, drop-append-le, take-take, drop-cons, take-suc, set_at, take-nil}
 use Rattle.figures.specs.declared.Sat.{Sat}
-use Rattle.figures.specs.declared.Sat.TheVariants as Sat
 use Rattle.figures.specs.declared.ExtData.{ExtData}
 use Rattle.figures.specs.Rules.{num, ext}
-use Rattle.tree_figures.specs.Memory.{sat_words, figure_words, sat_in, figures_in, figures_at, put_figures}
+use Rattle.tree_figures.specs.Memory.{sat_words, figure_words, figures_in, figures_at, put_figures}
 
 -- ---- words and back
 

@@ -5,7 +5,6 @@ use Rattle.records.specs.Payloads.{Payload, number_of, k_of, count_of, children_
 use Rattle.records.specs.RecordForm.{kind_of, fragment_payload}
 use Rattle.contexts.specs.declared.Context.{Context}
 use Rattle.figures.specs.declared.Sat.{Sat}
-use Rattle.figures.specs.declared.Sat.TheVariants as Sat
 use Rattle.figures.specs.declared.ExtData.{ExtData}
 use Rattle.figures.specs.Bounds.{Entered}
 use Rattle.figures.specs.Rules.{num, sat_data, ext}
