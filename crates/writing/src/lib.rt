@@ -3,4 +3,3 @@
 // specs/Writing.antt has the bytes that write a tree, specs/WellFormed.antt the trees that can be written,
 // specs/ReadBack.antt what is proved of writing and reading.
 #![tactic(auto)]
-
