@@ -1,12 +1,12 @@
 -- Bits of words: of `&` and `|`, of all bits, and that words with the same bits are the same. Assumes nothing.
-use Prim.Native.Nat.{ℕ, zero, suc, ◌+◌, ◌*◌, ◌/◌, ◌%◌, ◌^◌, ◌≤◌, ◌<◌}
+use Prim.Native.Nat.{ℕ, zero, suc, ◌+◌, ◌*◌, ◌/◌, ◌%◌, ◌^◌, ◌<◌}
 use mathlib.Core.Bool.{Bool, true, false, ◌&&◌, ◌||◌, not}
 use mathlib.Core.Path.{◌≡◌, refl, sym, ap, subst, ◌∙◌}
 use native.Mathlib.Omega.{arith}
 use native.Mathlib.Nat.{mod-lt, div-lt_iff_lt-mul, div-add-mod', div-one, div-div-eq-div-mul, pow-suc, mul_comm}
-use borrow.Author.Tests.{eqb-true, eqb-false, ltb-true, ltb-false}
+use borrow.Author.Tests.{eqb-true, eqb-false}
 use lib.Bits.{bit_and, bit_or, and_shr, or_shr, and_mod, or_mod}
-use lib.Dec.{eqb, ltb}
+use lib.Dec.{eqb}
 use Rattle.truth.specs.Words.{bit_at, all_bits, full_if}
 
 low_and : (r s : ℕ) → r < 2 → s < 2 → eqb (bit_and r s) 1 ≡ eqb r 1 && eqb s 1

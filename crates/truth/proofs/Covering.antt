@@ -2,18 +2,17 @@
 use Prim.Native.Nat.{ℕ, zero, suc, ◌+◌, ◌*◌, ◌/◌, ◌%◌, ◌≤◌, ◌<◌}
 use mathlib.Core.Bool.{Bool, true, false, cond, ◌&&◌}
 use mathlib.Core.List.{List, [], ◌∷◌, map}
-use mathlib.Core.Path.{◌≡◌, refl, sym, ap, subst, ◌∙◌}
+use mathlib.Core.Path.{◌≡◌, refl, sym, ap, ◌∙◌}
 use native.Mathlib.Omega.{arith}
 use borrow.Author.Tests.{ltb-true}
 use lib.Dec.{eqb, ltb}
 use lib.ListN.{length, get_or}
 use Rattle.contexts.specs.Lists.{one}
 use Rattle.meaning.specs.Meaning.{Variable, key, Assignment}
-use Rattle.variables.specs.declared.Var.{Var}
 use Rattle.variables.specs.Variables.{same, member}
 use Rattle.variables.specs.Gathering.{code_of}
 use Rattle.variables.proofs.Members.{same-is}
-use Rattle.truth.specs.Words.{bit_at, full_if, word_for, assigned, block_words}
+use Rattle.truth.specs.Words.{bit_at, word_for, block_words}
 use Rattle.truth.proofs.BitLaws.{bit-full}
 
 -- ---- every value of six bools, computed

@@ -1,12 +1,12 @@
 -- All blocks agree exactly if tree and policy mean the same. Assumes nothing.
 use Prim.Native.Nat.{ℕ, ◌+◌, ◌≤◌, ◌<◌}
 use mathlib.Core.Bool.{Bool, true, false}
-use mathlib.Core.List.{List, ◌++◌, map}
+use mathlib.Core.List.{List, ◌++◌}
 use mathlib.Core.Path.{◌≡◌, refl, sym, ap, subst, ◌∙◌}
 use native.Mathlib.Omega.{arith}
 use borrow.Author.Tests.{eqb-true, eqb-false}
 use lib.Dec.{eqb}
-use lib.ListN.{length, get_or, take, length-map}
+use lib.ListN.{length, get_or, length-map}
 use lib.Seq.{length-take-le}
 use Rattle.policies.specs.Policy.{Policy}
 use Rattle.policies.specs.Array.{policy_at}

@@ -1,30 +1,29 @@
 -- What a fragment or a policy means is 'at least so many of its places'. Assumes nothing.
-use Prim.Native.Nat.{ℕ, zero, suc, ◌+◌, ◌-◌, ◌≤◌, ◌<◌}
+use Prim.Native.Nat.{ℕ, ◌+◌, ◌-◌, ◌≤◌, ◌<◌}
 use mathlib.Core.Bool.{Bool, true, false, cond, ◌&&◌, ◌||◌}
 use mathlib.Core.List.{List, [], ◌∷◌, map}
 use mathlib.Core.Logic.{◌⊎◌, inl, inr}
 use mathlib.Core.Option.{some}
-use mathlib.Core.Path.{◌≡◌, refl, sym, ap, subst, ◌∙◌}
+use mathlib.Core.Path.{◌≡◌, refl, ap, ◌∙◌}
 use native.Mathlib.Omega.{arith}
 use borrow.Author.Tests.{eqb-true}
 use lib.Dec.{eqb, leb}
-use lib.ListN.{length}
 use Rattle.contexts.specs.Lists.{one}
 use Rattle.contexts.specs.Leaves.{After, Older, Sha256, Hash256, Ripemd160, Hash160}
 use Rattle.policies.specs.Policy as policy
 use Rattle.policies.specs.Policy.{Policy, Policies, Unsatisfiable, Trivial, Key, And, Or}
 use Rattle.policies.specs.Forms as forms
-use Rattle.trees.specs.Fragment.{Fragment, Fragments, end, ◌▹◌, to_list, False, True, PkK, PkH, Lock, Hash}
+use Rattle.trees.specs.Fragment.{Fragments, end, ◌▹◌, to_list, False, True, PkK, PkH, Lock, Hash}
 use Rattle.trees.specs.Fragment.{Alt, Swap, Check, DupIf, Verify, NonZero, ZeroNotEqual}
 use Rattle.trees.specs.Fragment.{AndB, AndV, OrB, OrD, OrC, OrI, AndOr, Thresh, Multi, MultiA}
 use Rattle.trees.specs.Tree.{Line, ◌is◌, find}
 use Rattle.walk.specs.Heads.{Head, head_of, children_in}
 use Rattle.walk.specs.Folds.{ByChildren}
-use Rattle.meaning.specs.Meaning.{Variable, key, lock, hash, Assignment, count_true, policy_means, policies_mean, tree_means, trees_mean}
+use Rattle.meaning.specs.Meaning.{key, lock, hash, Assignment, count_true, policy_means, policies_mean, tree_means, trees_mean}
 use Rattle.variables.specs.declared.Var.{Var}
-use Rattle.variables.specs.Gathering.{code, code_of, key_code, codes_in}
+use Rattle.variables.specs.Gathering.{code, key_code, codes_in}
 use Rattle.truth.specs.Words.{bit_at, word_for, assigned}
-use Rattle.truth.specs.Gates.{or_else, tree_gate, policy_gate, again, places_true, own_bits}
+use Rattle.truth.specs.Gates.{or_else, tree_gate, policy_gate, places_true, own_bits}
 
 -- ---- few places
 

@@ -1,8 +1,8 @@
 -- Counts in planes: none counted, one more counted. Assumes nothing.
 use Prim.Native.Nat.{ℕ, zero, suc, ◌+◌, ◌-◌, ◌≤◌, ◌<◌}
 use mathlib.Core.Bool.{Bool, true, false, ◌&&◌, ◌||◌}
-use mathlib.Core.List.{List, [], ◌∷◌}
-use mathlib.Core.Path.{◌≡◌, refl, sym, ap, subst, ◌∙◌}
+use mathlib.Core.List.{List}
+use mathlib.Core.Path.{◌≡◌, refl, sym, ap, ◌∙◌}
 use native.Mathlib.Omega.{arith}
 use borrow.Author.Tests.{leb-true, leb-false, le-leb, lt-leb, eqb-true, eqb-false}
 use lib.Bits.{bit_and, bit_or}
@@ -10,7 +10,7 @@ use lib.Dec.{eqb, leb}
 use lib.ListN.{length, get_or, set, replicate, length-set, get_or-replicate}
 use lib.Seq.{get_or-set_same, get_or-set_other}
 use Rattle.contexts.specs.Lists.{one}
-use Rattle.truth.specs.Words.{bit_at, all_bits, Planes, OneMore}
+use Rattle.truth.specs.Words.{bit_at, Planes, OneMore}
 use Rattle.truth.proofs.BitLaws.{bit-and, bit-or, bit-all, bit-none}
 
 -- ---- none counted

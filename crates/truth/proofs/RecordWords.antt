@@ -2,7 +2,7 @@
 use Prim.Native.Nat.{ℕ, zero, suc, ◌+◌, ◌-◌, ◌≤◌, ◌<◌}
 use mathlib.Core.Bool.{Bool, true, false, cond}
 use mathlib.Core.List.{List, [], ◌∷◌, map}
-use mathlib.Core.Option.{Option, none, some}
+use mathlib.Core.Option.{Option, some}
 use mathlib.Core.Path.{◌≡◌, refl, sym, ap, subst, ◌∙◌}
 use native.Mathlib.Omega.{arith}
 use borrow.Author.Tests.{eqb-true, eqb-false}
@@ -10,7 +10,7 @@ use lib.Dec.{eqb, leb}
 use lib.ListN.{length, get_or, set, take, drop, length-set}
 use lib.Seq.{get_or-take, get_or-set_same, get_or-set_other}
 use Rattle.records.specs.declared.Parts.{Parts}
-use Rattle.records.specs.Payloads.{Payload, k_of, count_of, children_of}
+use Rattle.records.specs.Payloads.{Payload, k_of, children_of}
 use Rattle.records.specs.RecordForm.{kind_of, fragment_payload}
 use Rattle.records.specs.Answers.{parts_of}
 use Rattle.records.specs.Shapes.{arity}
@@ -19,7 +19,7 @@ use Rattle.records.proofs.Arities.{own-children, few-children, same-children}
 use Rattle.contexts.specs.Lists.{one}
 use Rattle.trees.specs.Fragment.{Fragment}
 use Rattle.walk.specs.TreeRecords.{length_from, record_at, fragment_at, TreeRecord, TreeRecords, Told}
-use Rattle.walk.specs.Heads.{Head, head_with, head_in}
+use Rattle.walk.specs.Heads.{head_with, head_in}
 use Rattle.walk.proofs.FoldLaws.{value-at}
 use Rattle.walk.proofs.KindLaws.{threshold-bounds}
 use Rattle.meaning.specs.Meaning.{count_true, tree_means}

@@ -1,15 +1,14 @@
 -- What a record means is 'at least so many of these places': its own variables and its children; of an AndOr of x, y and z that is 2 of x, y, z, z.
-use Rattle.std.specs.Prelude.{ℕ, ◌+◌, ◌≤◌, ◌<◌, Bool, true, false, cond, List, [], ◌∷◌, map, ◌≡◌, eqb, leb, length, get_or, take}
+use Rattle.std.specs.Prelude.{ℕ, ◌+◌, ◌≤◌, ◌<◌, Bool, false, cond, List, [], ◌∷◌, map, ◌≡◌, eqb, leb, length, get_or}
 use Rattle.std.proofs.Math.Option.{Option, none, some}
 use Rattle.records.specs.Payloads.{Payload, k_of, count_of, children_of}
 use Rattle.records.specs.RecordForm.{kind_of, fragment_payload}
 use Rattle.contexts.specs.Lists.{one}
 use Rattle.trees.specs.Tree.{◌is◌, find}
 use Rattle.walk.specs.Heads.{head_in}
-use Rattle.meaning.specs.Meaning.{Variable, Assignment, count_true}
+use Rattle.meaning.specs.Meaning.{count_true}
 use Rattle.variables.specs.declared.Var.{Var}
-use Rattle.variables.specs.declared.Vars.{Vars}
-use Rattle.variables.specs.Gathering.{row_of, codes_in, Roomy}
+use Rattle.variables.specs.Gathering.{codes_in}
 use Rattle.truth.specs.Words.{bit_at, word_for}
 
 abbrev pub or_else : {A : Type 0} → A → Option A → A

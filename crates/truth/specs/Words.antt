@@ -1,5 +1,5 @@
 -- Truth tables of 64 assignments in a word, and counts of true places in planes of such words.
-use Rattle.std.specs.Prelude.{ℕ, suc, ◌+◌, ◌*◌, ◌/◌, ◌%◌, ◌^◌, ◌≤◌, ◌<◌, Bool, true, false, cond, List, [], ◌∷◌, ◌≡◌, eqb, leb, length, get_or}
+use Rattle.std.specs.Prelude.{ℕ, suc, ◌/◌, ◌%◌, ◌^◌, ◌<◌, Bool, true, false, cond, List, [], ◌∷◌, ◌≡◌, eqb, leb, length, get_or}
 use Rattle.std.specs.Int.Bits.{bit_and, bit_or}
 use Rattle.variables.specs.declared.Var.{Var}
 use Rattle.variables.specs.Gathering.{code_of, same_code}
