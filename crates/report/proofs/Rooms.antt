@@ -8,13 +8,6 @@ use Rattle.records.specs.declared.RecordLength.{RecordLength}
 use Rattle.records.specs.declared.RecordLength.TheVariants as RecordLength
 use Rattle.records.proofs.Laws.{length-bounds, whole_room, whole_length}
 
--- a record that begins at a place ends in the tree
-pub record-within : (s : List ℕ) (at : ℕ) {r : RecordLength} {n : ℕ} → r ≡ length_answer (record_length (drop at s)) → r ≡ RecordLength.Whole n
-    → (4 ≤ n) × (at + n ≤ length s)
-record-within s at answers told =
-    let whole = whole_length s at answers told in
-    ((length-bounds (drop at s) whole).0, whole_room s at whole)
-
 -- ---- records by their numbers
 
 pub first-start : (tree : List ℕ) → 0 ≡ start_of tree 0
@@ -26,11 +19,6 @@ unfolding start_of
 next_start tree n begins ends =
     let one : suc n ≡ n + 1 = omega arith in
     ends ∙ ap (λ (a : ℕ). a + length_from tree a) begins ∙ ap (start_of tree) one
-
-pub started-at : (tree : List ℕ) {i n at : ℕ} → n ≤ i → i ≤ n → at ≡ start_of tree n → at ≡ start_of tree i
-started-at tree {i} {n} most least begins =
-    let same : n ≡ i = omega arith in
-    begins ∙ ap (start_of tree) same
 
 -- what begins in the tree ends in it
 end-within : (tree : List ℕ) (at : ℕ) → at ≤ length tree → at + length_from tree at ≤ length tree

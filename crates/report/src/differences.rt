@@ -53,10 +53,8 @@ pub fn show_all(rt: &impl Print, left: &[u8], right: &[u8], told: &[u8]) -> io::
         return crate::say(rt, b"differences none\n");
     }
     crate::say_line(rt, b"differences", count as u64)?;
-    let mut j = 0;
-    while j < count {
+    for j in 0..count {
         show_difference(rt, left, right, told, j)?;
-        j += 1;
     }
     Ok(())
 }

@@ -141,24 +141,20 @@ fn show_type(rt: &impl Print, t: Type) -> io::Result<()> {
 
 // The first `count` of a record's children.
 fn show_children(rt: &impl Print, children: [u16; 16], count: usize) -> io::Result<()> {
-    let mut i = 0;
-    while i < 16 {
+    for i in 0..16 {
         if i < count {
             say_number(rt, children[i] as u64)?;
         }
-        i += 1;
     }
     Ok(())
 }
 
 // The first `count` of a record's keys.
 fn show_keys(rt: &impl Print, bytes: &[u8], count: usize) -> io::Result<()> {
-    let mut i: u16 = 0;
-    while i < 16 {
+    for i in 0..16u16 {
         if (i as usize) < count {
             say_number(rt, records::key_at(bytes, i))?;
         }
-        i += 1;
     }
     Ok(())
 }
@@ -237,10 +233,8 @@ pub fn say_byte(rt: &impl Print, b: u8) -> io::Result<()> {
 
 // Writes bytes in hexadecimal.
 pub fn say_hex(rt: &impl Print, bytes: &[u8]) -> io::Result<()> {
-    let mut i = 0;
-    while i < bytes.len() {
-        say_byte(rt, bytes[i])?;
-        i += 1;
+    for b in bytes {
+        say_byte(rt, *b)?;
     }
     Ok(())
 }

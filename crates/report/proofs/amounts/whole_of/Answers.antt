@@ -1,0 +1,12 @@
+-- `report::amounts::whole_of` is safe: what is cut lies within its two tests. Assumes nothing.
+use Rattle.std.proofs.Common.{T, sym, subst}
+use lib.Ieee.{of_bits, neg}
+use Rattle.report.proofs.amounts.whole_of.Goals as goal
+
+pub truncating_f64_to_u64-requires-clause-lower_bound : goal.truncating_f64_to_u64-requires-clause-lower_bound
+unfolding of_bits neg
+truncating_f64_to_u64-requires-clause-lower_bound c = subst T (sym c.if-x.true) tt
+
+pub truncating_f64_to_u64-requires-clause-upper_bound : goal.truncating_f64_to_u64-requires-clause-upper_bound
+unfolding of_bits neg
+truncating_f64_to_u64-requires-clause-upper_bound c = subst T (sym c.if-x-2.true) tt
