@@ -1,12 +1,9 @@
 -- A record lies in its tree. Assumes nothing.
-use Rattle.std.proofs.Common.{◌≡◌, ℕ, zero, suc, ◌+◌, ◌≤◌, List, length, drop, sym, refl, ap, ◌∙◌, arith}
+use Rattle.std.proofs.Common.{◌≡◌, ℕ, zero, suc, ◌+◌, ◌≤◌, List, length, drop, refl, ap, ◌∙◌, arith}
 use mathlib.Core.Option.{Option, none, some}
 use Rattle.walk.specs.TreeRecords.{length_from, start_of}
 use Rattle.records.specs.RecordForm.{record_length}
-use Rattle.records.specs.Answers.{length_answer}
-use Rattle.records.specs.declared.RecordLength.{RecordLength}
-use Rattle.records.specs.declared.RecordLength.TheVariants as RecordLength
-use Rattle.records.proofs.Laws.{length-bounds, whole_room, whole_length}
+use Rattle.records.proofs.Laws.{whole_room}
 
 -- ---- records by their numbers
 

@@ -54,11 +54,17 @@ pub fn show_number(rt: &impl Print, number: u32) -> io::Result<()> {
 // The line that says what a refusal means.
 fn show_meaning(rt: &impl Print, number: u32) -> io::Result<()> {
     match number {
-        1 => say(rt, b"the context is neither 0, SegWit v0, nor 1, Tapscript\n"),
+        1 => say(
+            rt,
+            b"the context is neither 0, SegWit v0, nor 1, Tapscript\n",
+        ),
         2 => say(rt, b"the work memory has another length\n"),
         3 => say(rt, b"the policy has no record, or one breaks the form\n"),
         4 => say(rt, b"a weight of an Or is 0\n"),
-        5 => say(rt, b"the policy has more than 64 records, or is deeper than 16\n"),
+        5 => say(
+            rt,
+            b"the policy has more than 64 records, or is deeper than 16\n",
+        ),
         6 => say(rt, b"the search accepts a 65535th candidate\n"),
         7 => say(rt, b"a table of the search would have 129 entries\n"),
         8 => say(rt, b"the search would remember a 2049th table\n"),
@@ -67,17 +73,32 @@ fn show_meaning(rt: &impl Print, number: u32) -> io::Result<()> {
             rt,
             b"a cost to be compared is not a number or has its sign bit set, or a needed one is missing\n",
         ),
-        11 => say(rt, b"a table of the search is empty, or none of its entries suits\n"),
-        12 => say(rt, b"the chosen fragment is not safe: it can be satisfied without a signature\n"),
-        13 => say(rt, b"the records of the tree do not fit, or are more than 4096\n"),
+        11 => say(
+            rt,
+            b"a table of the search is empty, or none of its entries suits\n",
+        ),
+        12 => say(
+            rt,
+            b"the chosen fragment is not safe: it can be satisfied without a signature\n",
+        ),
+        13 => say(
+            rt,
+            b"the records of the tree do not fit, or are more than 4096\n",
+        ),
         14 => say(rt, b"the tree has no record, or one breaks the form\n"),
         15 => say(
             rt,
             b"the tree breaks a type rule, or has Multi in context 1 or MultiA in context 0\n",
         ),
         16 => say(rt, b"the tree has more than 4096 records\n"),
-        17 => say(rt, b"a number of the tree has no whole entry in its table\n"),
-        18 => say(rt, b"a key's number is over 4294967295, more than the old form holds\n"),
+        17 => say(
+            rt,
+            b"a number of the tree has no whole entry in its table\n",
+        ),
+        18 => say(
+            rt,
+            b"a key's number is over 4294967295, more than the old form holds\n",
+        ),
         19 => say(rt, b"the tree is more than 128 high\n"),
         _ => show_later_meaning(rt, number),
     }
@@ -87,9 +108,15 @@ fn show_meaning(rt: &impl Print, number: u32) -> io::Result<()> {
 fn show_later_meaning(rt: &impl Print, number: u32) -> io::Result<()> {
     match number {
         20 => say(rt, b"the index is not the one that is built for the tree\n"),
-        21 => say(rt, b"policy and tree have more than 12 keys, hashes and locks together\n"),
+        21 => say(
+            rt,
+            b"policy and tree have more than 12 keys, hashes and locks together\n",
+        ),
         22 => say(rt, b"the tree is not of base B\n"),
-        23 => say(rt, b"the tree is not safe: it can be satisfied without a signature\n"),
+        23 => say(
+            rt,
+            b"the tree is not safe: it can be satisfied without a signature\n",
+        ),
         24 => say(rt, b"the tree is malleable\n"),
         25 => say(rt, b"a fragment of the tree is not locally valid\n"),
         26 => say(rt, b"the tree does not mean what the policy means\n"),
@@ -276,13 +303,7 @@ pub fn show_refusal_of<R: Print + Eprint>(rt: &R, number: u32, side: Side) {
 }
 
 // The lines of a policy that is compiled.
-fn say_compiled(
-    rt: &impl Print,
-    cost: u64,
-    never: u32,
-    nodes: u64,
-    tree: &[u8],
-) -> io::Result<()> {
+fn say_compiled(rt: &impl Print, cost: u64, never: u32, nodes: u64, tree: &[u8]) -> io::Result<()> {
     show_number(rt, 0)?;
     show_given(rt, tree.len() as u64, cost, never, nodes)?;
     show_tree(rt, tree)
