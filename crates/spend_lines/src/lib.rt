@@ -8,6 +8,7 @@ ghost use Rattle.names.specs.Text.{bytes};
 ghost use Rattle.script_leaves.specs.Laying.{Lays};
 ghost use Rattle.spend_lines.specs.Lines.{newline, decimal, verdict_words, line_of, lines_of, counts_of, Shows};
 
+use itoa::Buffer;
 use script_leaves::{put, put_bytes};
 use spend_tally::{Tally, number_in, verdict_in};
 
@@ -15,9 +16,8 @@ use spend_tally::{Tally, number_in, verdict_in};
 fn put_decimal(out: &mut [u8], at: usize, n: u64) -> usize
     ensures { Lays out.old out.new at (decimal n) result }
 {
-    let mut digits = [0u8; 20];
-    let k = io::decimal(n, &mut digits);
-    put_bytes(out, at, &digits[..k])
+    let mut digits = Buffer::new();
+    put_bytes(out, at, digits.format(n).as_bytes())
 }
 
 // Lays a space, a verdict in words and the end of the line.
