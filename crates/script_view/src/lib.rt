@@ -182,10 +182,8 @@ fn say_entry(rt: &impl Print, tree: &[u8], index: &[u8], i: usize) -> io::Result
 fn say_entries(rt: &impl Print, tree: &[u8], index: &[u8]) -> io::Result<()> {
     say(rt, b"type        height    first   length  record\n")?;
     let n = index_view::entries(index);
-    let mut i = 0;
-    while i < n {
+    for i in 0..n {
         say_entry(rt, tree, index, i)?;
-        i += 1;
     }
     Ok(())
 }
