@@ -9,14 +9,10 @@ use lib.ListN.{length, take, get_or}
 use Rattle.oracle_lines.specs.Lines.{Line, says, records, dash, Told, finite, cost, hash, space, split, said_by, line_of}
 use Rattle.numerals.specs.Numbers.{decimal, bits, found64}
 use Rattle.numerals.specs.declared.Number64.{Number64}
-use Rattle.numerals.specs.declared.Number64.TheVariants as Number64
 use Rattle.oracle_lines.specs.Reads.{part, Reads, reads, misses, InOrder, SixWords, six, other, said_at, Tells, passes, breaks}
 use Rattle.oracle_lines.specs.declared.Length.{Length}
-use Rattle.oracle_lines.specs.declared.Length.TheVariants as Length
 use Rattle.oracle_lines.specs.declared.Words.{Words}
-use Rattle.oracle_lines.specs.declared.Words.TheVariants as Words
 use Rattle.oracle_lines.specs.declared.Case.{Case}
-use Rattle.oracle_lines.specs.declared.Case.TheVariants as Case
 
 -- ---- what the readers of records tell
 

@@ -14,7 +14,6 @@ use Rattle.oracle_lines.specs.Lines.{onto, bytes, dash, records}
 use Rattle.numerals.specs.Numbers.{digit}
 use Rattle.oracle_lines.specs.Reads.{Reads, reads, misses}
 use Rattle.oracle_lines.specs.declared.Length.{Length}
-use Rattle.oracle_lines.specs.declared.Length.TheVariants as Length
 
 -- bytes that stand before what is read
 abbrev pub before : List ℕ → Option (List ℕ) → Option (List ℕ)

@@ -1,16 +1,12 @@
 -- What the parts of the reading answer, by the definitions of Lines.antt. Assumes nothing.
-use Rattle.std.specs.Prelude.{false, List, [], ◌∷◌, ◌≡◌, ℕ, ◌+◌, ◌-◌, ◌*◌, ◌<◌, ◌≤◌, eqb, length, take, drop}
+use Rattle.std.specs.Prelude.{false, List, [], ◌∷◌, ◌≡◌, ℕ, ◌+◌, ◌-◌, ◌<◌, ◌≤◌, eqb, length, take, drop}
 use Rattle.std.proofs.Math.Option.{Option, none, some}
 use Rattle.oracle_lines.specs.Lines.{space, split, Told, Line, passed, broken, says, said}
 use Rattle.oracle_lines.specs.declared.Length.{Length}
-use Rattle.oracle_lines.specs.declared.Length.TheVariants as Length
 use Rattle.oracle_lines.specs.declared.CostRead.{CostRead}
-use Rattle.oracle_lines.specs.declared.CostRead.TheVariants as CostRead
 use Rattle.oracle_lines.specs.declared.Words.{Words}
-use Rattle.oracle_lines.specs.declared.Words.TheVariants as Words
 use Rattle.oracle_lines.specs.declared.Said.{Said}
 use Rattle.oracle_lines.specs.declared.Case.{Case}
-use Rattle.oracle_lines.specs.declared.Case.TheVariants as Case
 
 -- the bytes from a place up to another
 abbrev pub part : List ℕ → (from to : ℕ) → List ℕ
