@@ -3,11 +3,10 @@ use Prim.Native.Nat.{ℕ}
 use mathlib.Core.Bool.{Bool, true, false, ◌&&◌, cond}
 use mathlib.Core.List.{List, [], ◌∷◌, ◌++◌, map}
 use mathlib.Core.Path.{◌≡◌, refl, sym, ap, ◌∙◌}
-use native.Mathlib.Omega.{arith}
 use borrow.Author.Tests.{eqb-true, eqb-false, eq-eqb, ne_eqb}
 use lib.Dec.{eqb}
 use Rattle.walk.specs.Heads.{Head}
-use Rattle.differ.specs.Numbered.{Numbered, NumberedList, node, end, ◌▹◌}
+use Rattle.differ.specs.Numbered.{NumberedList, node, end, ◌▹◌}
 use Rattle.differ.specs.Differences.{Difference, same_keys, same_head, same_count, differences, differences_in}
 use Rattle.differ.specs.Laws.{exchange, Exchanges}
 

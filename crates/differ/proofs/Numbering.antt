@@ -13,14 +13,13 @@ use Rattle.records.specs.Numbers.{or_zero}
 use Rattle.records.specs.Payloads.{Payload, children_of}
 use Rattle.records.specs.RecordForm.{record_length, fragment_payload}
 use Rattle.trees.specs.Fragment.{Fragment}
-use Rattle.trees.specs.Reading.{done, max_records}
-use Rattle.trees.specs.Tree.{tree_of}
+use Rattle.trees.specs.Reading.{max_records}
 use Rattle.walk.specs.TreeRecords.{start_of, record_at, fragment_at, TreeRecord, TreeRecords}
 use Rattle.walk.specs.Heads.{children_in, head_in}
 use Rattle.walk.proofs.Laws.{written, not_last, all_read, start_first}
 use Rattle.walk.proofs.HeadLaws.{head_at}
 use Rattle.walk.proofs.FoldLaws.{by-records, children-at}
-use Rattle.differ.specs.Numbered.{Numbered, NumberedList, node, nobody, those, children_if, numbered_from, numbered, Numbers, NumbersAll}
+use Rattle.differ.specs.Numbered.{Numbered, node, nobody, those, children_if, numbered_from, numbered, Numbers, NumbersAll}
 use Rattle.differ.specs.Records.{numbered_of, numbered_at, list_at}
 use Rattle.differ.specs.Laws.{NumbersTheTree}
 

@@ -1,17 +1,16 @@
 -- The entry's promise: what the checks refuse is refused, and of two trees that pass the differences are told if they fit. Assumes nothing.
-use Prim.Native.Nat.{ℕ, ◌+◌, ◌-◌, ◌*◌, ◌≤◌, ◌<◌}
-use mathlib.Core.Bool.{Bool, true, false}
-use mathlib.Core.List.{List, [], ◌∷◌, ◌++◌}
+use Prim.Native.Nat.{ℕ, ◌-◌, ◌*◌, ◌≤◌, ◌<◌}
+use mathlib.Core.List.{List, [], ◌++◌}
 use mathlib.Core.Option.{Option, none, some}
 use mathlib.Core.Path.{◌≡◌, refl, sym, ap, subst, ◌∙◌}
 use native.Mathlib.Omega.{arith}
 use borrow.Author.Tests.{le-leb, lt-leb, eq-eqb, ne_eqb}
-use lib.ListN.{length, drop, replicate}
+use lib.ListN.{length, replicate}
 use Rattle.words.specs.Memory.{zeroed}
 use Rattle.contexts.specs.declared.Context.{Context}
 use Rattle.trees.specs.Fragment.{Fragment}
 use Rattle.trees.specs.Reading.{Answer, refused, done, max_records}
-use Rattle.trees.specs.TreeCheck.{Typed, bad_context, bad_work, context_of, check_of}
+use Rattle.trees.specs.TreeCheck.{Typed, bad_context, context_of, check_of}
 use Rattle.claspwillow.specs.Promises.{CheckPromise}
 use Rattle.claspwillow.proofs.CheckLaws.{passed, refused_as}
 use Rattle.walk.specs.TreeRecords.{TreeRecords, Written}

@@ -1,5 +1,5 @@
 -- Two records side by side: what their bytes say of their heads and of how many children they have. Assumes nothing.
-use Prim.Native.Nat.{ℕ, zero, suc, ◌+◌, ◌≤◌, ◌<◌}
+use Prim.Native.Nat.{ℕ, suc, ◌+◌, ◌≤◌, ◌<◌}
 use mathlib.Core.Bool.{Bool, true, false, ◌&&◌, cond}
 use mathlib.Core.List.{List, [], ◌∷◌}
 use mathlib.Core.Path.{◌≡◌, refl, sym, ap, ◌∙◌}
@@ -14,9 +14,8 @@ use Rattle.records.specs.Answers.{parts_of}
 use Rattle.records.proofs.Laws.{keys-first, keys-next, keys-end, length-keys}
 use Rattle.walk.specs.TreeRecords.{record_at, TreeRecord}
 use Rattle.walk.specs.Heads.{head_in}
-use Rattle.walk.proofs.Laws.{row_told, or_later}
+use Rattle.walk.proofs.Laws.{row_told}
 use Rattle.walk.proofs.KindLaws.{fragment-kind, no_payload, number-payload, one-payload, two-payload, three-payload, thresh-payload, keys-payload}
-use Rattle.differ.specs.Numbered.{NumberedList, end, ◌▹◌}
 use Rattle.differ.specs.Differences.{same_keys, same_head, same_count}
 use Rattle.differ.specs.Records.{list_at, same_record}
 

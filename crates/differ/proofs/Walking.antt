@@ -1,14 +1,13 @@
 -- Two trees walked side by side: what is told at two records, and then at their children in turn. Assumes nothing.
-use Prim.Native.Nat.{ℕ, zero, suc, ◌+◌, ◌-◌, ◌≤◌, ◌<◌}
-use mathlib.Core.Bool.{Bool, true, false, ◌&&◌, cond}
+use Prim.Native.Nat.{ℕ, suc, ◌+◌, ◌-◌, ◌≤◌, ◌<◌}
+use mathlib.Core.Bool.{Bool, true, false, cond}
 use mathlib.Core.List.{List, [], ◌∷◌, ◌++◌}
 use mathlib.Core.Path.{◌≡◌, refl, sym, ap, subst, ◌∙◌}
 use native.Mathlib.Numerals.{add-one}
 use native.Mathlib.Omega.{arith}
 use borrow.Author.Tests.{eqb-true}
-use lib.Dec.{eqb}
 use lib.ListN.{length, get_or, take, drop, drop_of_length-le}
-use lib.Seq.{drop-cons, get_or-take, length-take-le}
+use lib.Seq.{drop-cons, get_or-take}
 use Rattle.records.specs.Payloads.{children_of}
 use Rattle.records.proofs.Forms.{and_right}
 use Rattle.trees.specs.Fragment.{Fragment}
@@ -17,7 +16,7 @@ use Rattle.walk.specs.declared.Node.{Node}
 use Rattle.walk.specs.TreeRecords.{TreeRecord, TreeRecords, record_at}
 use Rattle.walk.specs.Nodes.{node_of, AllPlaced}
 use Rattle.walk.specs.Heads.{head_in}
-use Rattle.walk.proofs.Laws.{placed_below, few, node-count, node-children, child-before, all-places}
+use Rattle.walk.proofs.Laws.{placed_below, few, node-count, node-children, child-before}
 use Rattle.differ.specs.Numbered.{Numbered, node}
 use Rattle.differ.specs.Differences.{Difference, same_head, same_count, differences, differences_in}
 use Rattle.differ.specs.Records.{numbered_at, list_at, size_of, sizes_of, same_record, Walks}

@@ -1,6 +1,6 @@
 -- The numbered trees of the records of a tree one by one, and two records side by side: document 01, "Records". For the inner contracts;
 -- proofs/Numbering.antt shows that the last is the tree of specs/Numbered.antt.
-use Rattle.std.specs.Prelude.{ℕ, zero, suc, ◌+◌, ◌≤◌, ◌<◌, Bool, true, ◌&&◌, cond, List, [], ◌∷◌, ◌≡◌, eqb, ltb, get_or}
+use Rattle.std.specs.Prelude.{ℕ, zero, suc, ◌+◌, ◌≤◌, ◌<◌, Bool, true, ◌&&◌, cond, List, [], ◌∷◌, eqb, ltb, get_or}
 use Rattle.records.specs.declared.Parts.{Parts}
 use Rattle.records.specs.Payloads.{count_in, first_keys}
 use Rattle.records.specs.RecordForm.{kind_of, fragment_payload}

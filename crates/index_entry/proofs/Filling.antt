@@ -9,11 +9,9 @@ use borrow.Author.Tests.{eqb-true, eqb-false}
 use lib.Dec.{eqb}
 use lib.ListN.{length, get_or, set, length-set}
 use lib.Seq.{get_or-set_other}
-use Rattle.records.specs.declared.Parts.{Parts}
 use Rattle.records.specs.Payloads.{Payload, k_of}
 use Rattle.records.specs.RecordForm.{fragment_payload}
 use Rattle.records.specs.Answers.{parts_of}
-use Rattle.types.specs.declared.«Type».{«Type»}
 use Rattle.types.specs.TypeOrder.{pack}
 use Rattle.contexts.specs.declared.Context.{Context}
 use Rattle.trees.specs.Typing.{type_of}
@@ -23,7 +21,7 @@ use Rattle.trees.specs.Rules.{answered, rule_of, types_of, tallest}
 use Rattle.trees.specs.declared.Subtree.{Subtree}
 use Rattle.walk.specs.TreeRecords.{record_at, fragment_at, TreeRecord, TreeRecords}
 use Rattle.walk.specs.Nodes.{node_of, Placed}
-use Rattle.walk.proofs.Laws.{few, node-children}
+use Rattle.walk.proofs.Laws.{node-children}
 use Rattle.script_entry.specs.Pieces.{last, place}
 use Rattle.script_entry.proofs.Nodes.{placed-before, leaf-here}
 use Rattle.index_places.specs.Sizes.{size_of}

@@ -7,7 +7,6 @@ use Rattle.contexts.specs.declared.Context.{Context}
 use Rattle.trees.specs.declared.Subtree.{Subtree}
 use Rattle.walk.specs.TreeRecords.{fragment_at}
 use Rattle.walk.specs.Nodes.{node_of}
-use Rattle.walk.specs.declared.Node.{Node}
 use Rattle.script_leaves.specs.Leaves.{leaf_of}
 use Rattle.script_entry.specs.Pieces.{last}
 use Rattle.index_memory.specs.Memory.{size_in, subtree_in, tree_word}

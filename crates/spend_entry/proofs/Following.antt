@@ -1,22 +1,22 @@
 -- Entries up to the log's end, reported one by one: what is still to come. Assumes nothing.
-use Prim.Native.Nat.{ℕ, zero, suc, ◌+◌, ◌*◌, ◌-◌, ◌≤◌, ◌<◌}
-use mathlib.Core.List.{List, [], ◌∷◌, map}
+use Prim.Native.Nat.{ℕ, suc, ◌+◌, ◌*◌, ◌≤◌, ◌<◌}
+use mathlib.Core.List.{List, [], ◌∷◌}
 use mathlib.Core.Option.{Option, none, some}
 use mathlib.Core.Path.{◌≡◌, refl, sym, ap, ◌∙◌}
 use native.Mathlib.Omega.{arith}
-use lib.ListN.{length, drop, length-drop, length-map}
+use lib.ListN.{length, drop, length-drop}
 use Rattle.contexts.specs.declared.Context.{Context}
 use Rattle.trees.specs.Fragment.{Fragment}
 use Rattle.script_machine.specs.Numbers.{Bytes}
 use Rattle.script_bytes.specs.Tables.{Tables}
 use Rattle.spend_machine.specs.Entries.{Entry}
-use Rattle.spend_machine.specs.Verdicts.{report, reports}
+use Rattle.spend_machine.specs.Verdicts.{reports}
 use Rattle.spend_log.specs.Readers.{Read, give, onward, to_end}
 use Rattle.spend_log.specs.Logs.{entry}
 use Rattle.spend_log.proofs.Passing.{some_same, takes-less, to_end-next, to_end-broken, to_end-done}
 use Rattle.spend_log.proofs.Parts.{takes-entry}
 use Rattle.spend_judge.specs.Places.{Stands}
-use Rattle.spend_entry.specs.Results.{put_report, put_reports, read_or, entries_from, Follow, Reported}
+use Rattle.spend_entry.specs.Results.{put_reports, read_or, entries_from, Follow, Reported}
 
 never : {A B : Type 0} {x : B} → none ≡ some x → A
 never e = absurd (let z : ◌≡◌ {A = ℕ} 0 1 = cc in omega arith)

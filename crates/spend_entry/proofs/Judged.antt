@@ -1,8 +1,7 @@
 -- The verdict on an entry by its run in memory, and its report. Assumes nothing.
-use Prim.Native.Nat.{ℕ, ◌+◌, ◌*◌, ◌≤◌, ◌<◌}
-use mathlib.Core.Bool.{Bool, true, false, ◌&&◌, cond}
+use Prim.Native.Nat.{ℕ, ◌+◌, ◌≤◌, ◌<◌}
+use mathlib.Core.Bool.{Bool, true, false, ◌&&◌}
 use mathlib.Core.List.{List, [], ◌++◌}
-use mathlib.Core.Option.{some}
 use mathlib.Core.Path.{◌≡◌, refl, sym, ap, subst, ◌∙◌}
 use native.Mathlib.Omega.{arith}
 use borrow.Author.Tests.{leb-true}
@@ -13,28 +12,25 @@ use Rattle.contexts.specs.Lists.{all}
 use Rattle.trees.specs.Fragment.{Fragment}
 use Rattle.script_machine.specs.Numbers.{Bytes, Stack}
 use Rattle.script_machine.specs.Machine.{state}
-use Rattle.script_machine.specs.Translation.{script}
 use Rattle.script_bytes.specs.Tables.{Tables}
 use Rattle.walk.specs.TreeRecords.{fragment_at}
-use Rattle.spend_machine.specs.Entries.{Outcome, Entry}
-use Rattle.spend_machine.specs.Recorded.{stands, max_elements, recorded_run}
-use Rattle.spend_machine.specs.Verdicts.{Verdict, too_large, verdict_number, small_bytes, small_entry, judged, replay, verdict, report}
+use Rattle.spend_machine.specs.Entries.{Entry}
+use Rattle.spend_machine.specs.Recorded.{stands, max_elements}
+use Rattle.spend_machine.specs.Verdicts.{verdict_number, small_bytes, small_entry, judged, replay, verdict}
 use Rattle.spend_machine.specs.Playing.{plays}
 use Rattle.spend_machine.proofs.Playing.{script-plays}
-use Rattle.spend_log.specs.Readers.{Read}
-use Rattle.spend_log.specs.Logs.{entry}
 use Rattle.spend_log.specs.Places.{tables_in}
 use Rattle.spend_log.specs.declared.Offsets.{Offsets}
 use Rattle.spend_stack.specs.declared.Machine.{Machine}
 use Rattle.spend_stack.specs.Memory.{work_words, main_in}
-use Rattle.spend_stack.specs.Machines.{run_of, Fits}
+use Rattle.spend_stack.specs.Machines.{run_of}
 use Rattle.spend_stack.proofs.Memory.{main-back}
 use Rattle.spend_judge.specs.declared.EntryAt.{EntryAt}
-use Rattle.spend_judge.specs.Places.{stack_in, outcomes_in, end_in, entry_at, entry_in, Lie, Stands, end_past}
+use Rattle.spend_judge.specs.Places.{stack_in, outcomes_in, end_in, entry_at, entry_in, Lie, Stands}
 use Rattle.spend_judge.specs.Results.{Loaded, Begins}
 use Rattle.spend_judge.proofs.Entries.{EntryRead, entry_read, stack-later, outcomes-later, end_later}
 use Rattle.spend_run.specs.Running.{Runs, Played}
-use Rattle.spend_entry.specs.Results.{put_numbers, put_report, Reported}
+use Rattle.spend_entry.specs.Results.{put_numbers, Reported}
 use Rattle.spend_entry.proofs.Telling.{length-numbers}
 
 both_left : (a b : Bool) → a && b ≡ true → a ≡ true

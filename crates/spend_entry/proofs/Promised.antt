@@ -1,18 +1,17 @@
 -- The entry's promise: each refusal in its turn, and else the reports. Assumes nothing.
-use Prim.Native.Nat.{ℕ, ◌+◌, ◌*◌, ◌-◌, ◌/◌, ◌≤◌, ◌<◌}
-use mathlib.Core.Bool.{Bool, true, false, cond}
-use mathlib.Core.List.{List, [], ◌++◌, map}
+use Prim.Native.Nat.{ℕ, ◌*◌, ◌-◌, ◌/◌, ◌≤◌, ◌<◌}
+use mathlib.Core.Bool.{Bool, true, false}
+use mathlib.Core.List.{List, [], ◌++◌}
 use mathlib.Core.Option.{Option, none, some}
 use mathlib.Core.Path.{◌≡◌, refl, sym, ap, subst, ◌∙◌}
 use native.Mathlib.Omega.{arith}
 use borrow.Author.Tests.{le-leb, lt-leb, eq-eqb, ne_eqb}
-use lib.Dec.{leb, eqb}
 use lib.ListN.{length, take, drop, replicate}
 use Rattle.words.specs.Memory.{zeroed}
 use Rattle.contexts.specs.declared.Context.{Context}
 use Rattle.trees.specs.Fragment.{Fragment}
-use Rattle.trees.specs.Reading.{Answer, refused, done, ◌>>=◌, or_refuse, max_records}
-use Rattle.trees.specs.TreeCheck.{bad_context, bad_work, Typed, context_of, work_of, typed_tree_of, check_in, check_of}
+use Rattle.trees.specs.Reading.{Answer, refused, done, ◌>>=◌, max_records}
+use Rattle.trees.specs.TreeCheck.{bad_context, Typed, context_of, typed_tree_of, check_of}
 use Rattle.script_machine.specs.Numbers.{Bytes}
 use Rattle.script_bytes.specs.Tables.{Tables}
 use Rattle.script_bytes.specs.ScriptOf.{no_entry, output_too_small, has_entries}
@@ -27,22 +26,19 @@ use Rattle.claspwillow.proofs.CheckLaws.{Passed, passed, refused_as, same-room}
 use Rattle.spend_machine.specs.Entries.{Entry}
 use Rattle.spend_machine.specs.Verdicts.{reports}
 use Rattle.spend_machine.proofs.Laws.{entries-apart}
-use Rattle.spend_log.specs.Logs.{Head, Log, log, log_of}
-use Rattle.spend_log.specs.Places.{Lies, tree_in, tables_in, head_in, head_answer, count_answer}
-use Rattle.spend_log.specs.Logs.{head, entry}
-use Rattle.spend_log.specs.Readers.{Read, to_end}
+use Rattle.spend_log.specs.Logs.{log, log_of}
+use Rattle.spend_log.specs.Places.{Lies, tree_in, tables_in, head_in, count_answer}
+use Rattle.spend_log.specs.Logs.{entry}
+use Rattle.spend_log.specs.Readers.{to_end}
 use Rattle.spend_log.specs.declared.Offsets.{Offsets}
-use Rattle.spend_log.specs.declared.HeadAt.{HeadAt}
-use Rattle.spend_log.specs.declared.HeadAt.TheVariants as HeadAt
 use Rattle.spend_log.specs.declared.Counted.{Counted}
-use Rattle.spend_log.specs.declared.Counted.TheVariants as Counted
-use Rattle.spend_log.proofs.Heads.{EntriesAt, entries-told}
+use Rattle.spend_log.proofs.Heads.{entries-told}
 use Rattle.spend_stack.specs.Memory.{work_words, starts_in}
 use Rattle.spend_stack.proofs.Memory.{starts-back}
 use Rattle.spend_run.specs.Running.{Runs}
-use Rattle.spend_replay.specs.Replay.{bad_log, replay_words, Report, fitting, reports_in, replay_log, replay_of, ReplayPromise}
+use Rattle.spend_replay.specs.Replay.{bad_log, replay_words, Report, reports_in, replay_log, replay_of, ReplayPromise}
 use Rattle.spend_entry.specs.declared.Given.{Given}
-use Rattle.spend_entry.specs.Results.{put_reports, read_or, entries_from, Follow, Gives, Whole, wrong_length}
+use Rattle.spend_entry.specs.Results.{put_reports, read_or, entries_from, Gives, Whole, wrong_length}
 use Rattle.spend_entry.proofs.Telling.{all-put}
 
 pub gives_as : {a b : Answer (List Report)} {out left : Bytes} {r : Given} → a ≡ b → Gives b out left r → Gives a out left r

@@ -1,5 +1,5 @@
 -- Reports in an output, and what the runs that write them ask and leave: document 02, R-6.
-use Rattle.std.specs.Prelude.{ℕ, suc, ◌+◌, ◌*◌, ◌≤◌, ◌<◌, cond, List, [], ◌∷◌, ◌≡◌, length, drop}
+use Rattle.std.specs.Prelude.{ℕ, suc, ◌+◌, ◌*◌, ◌≤◌, ◌<◌, List, [], ◌∷◌, ◌≡◌, length, drop}
 use Rattle.std.proofs.Math.Option.{Option, none, some}
 use Rattle.words.specs.Bytes.{put_le}
 use Rattle.contexts.specs.declared.Context.{Context}

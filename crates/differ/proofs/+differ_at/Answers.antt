@@ -1,5 +1,4 @@
 -- `differ::differ_at` meets its contract. What falls is the left record's number: children come before their parents. Assumes nothing.
-use Prim.Native.Nat.{ℕ}
 use mathlib.Core.Path.{refl}
 use native.Mathlib.Omega.{arith}
 use Rattle.differ.proofs.Telling.{keeps-length}

@@ -1,4 +1,4 @@
-use Prim.Native.Nat.{ℕ, ◌-◌}
+use Prim.Native.Nat.{◌-◌}
 use Rattle.differ.proofs.Walking.{DifferOn}
 use Rattle.differ.proofs.+differ_at.Given as goal
 

@@ -4,7 +4,6 @@ use Rattle.index_entry.proofs.Promised.{first-long, joined-long, tree-checked}
 use Rattle.claspwillow.proofs.CheckLaws.{same-room}
 use lib.ListN.{take}
 use mathlib.Core.Path.{sym, ◌∙◌}
-use borrow.Author.Rules.{rules}
 use Rattle.index_entry.proofs.find_checked.Goals as goal
 
 pub find_in-requires : goal.find_in-requires

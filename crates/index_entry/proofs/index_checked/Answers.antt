@@ -3,7 +3,6 @@ use Rattle.index_entry.proofs.Promised.{first-long, joined-long, tree-checked, a
 use Rattle.claspwillow.proofs.CheckLaws.{same-room}
 use lib.ListN.{take}
 use mathlib.Core.Path.{sym, ◌∙◌}
-use borrow.Author.Rules.{rules}
 use Rattle.index_entry.proofs.index_checked.Goals as goal
 
 pub index_in-requires : goal.index_in-requires

@@ -1,5 +1,5 @@
 -- `index_sizes::leaf_size` meets its contract. Assumes nothing.
-use Rattle.index_sizes.proofs.LeafSizes.{push-product, size-multi, size-multi-a, size-numbered}
+use Rattle.index_sizes.proofs.LeafSizes.{size-multi, size-multi-a, size-numbered}
 use native.Mathlib.Omega.{arith}
 use Rattle.records.proofs.Widths.{short-fragment}
 use Rattle.index_sizes.proofs.leaf_size.Goals as goal

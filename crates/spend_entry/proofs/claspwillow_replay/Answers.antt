@@ -1,6 +1,4 @@
 -- `spend_entry::claspwillow_replay` keeps its promise: the replay, and then work memory is cleared. Assumes nothing.
-use borrow.Author.Rules.{rules}
-use mathlib.Core.Path.{◌≡◌, refl, sym, ap, ◌∙◌}
 use Rattle.spend_entry.proofs.Promised.{promised}
 use Rattle.spend_entry.proofs.claspwillow_replay.Goals as goal
 

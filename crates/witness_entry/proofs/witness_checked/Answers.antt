@@ -2,7 +2,6 @@ use mathlib.Core.Path.{sym, ◌∙◌}
 use lib.ListN.{take}
 use Rattle.claspwillow.proofs.CheckLaws.{same-room}
 use Rattle.witness_entry.proofs.Promised.{first-long, joined-long, tree-written, answered, answered-refused}
-use borrow.Author.Rules.{rules}
 use Rattle.witness_entry.proofs.witness_checked.Goals as goal
 
 pub root_extremes-e-requires : goal.root_extremes-e-requires

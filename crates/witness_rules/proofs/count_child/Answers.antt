@@ -1,8 +1,4 @@
-use Rattle.std.proofs.Common.{rules}
-use mathlib.Core.Path.{◌≡◌, refl}
-use lib.ListN.{length}
 use Rattle.witness_rules.proofs.Bounds.{loose}
-use Rattle.witness_rules.proofs.Counting.{counting-start, counting_more, counting-end}
 use Prim.Native.Nat.{◌-◌}
 use native.Mathlib.Omega.{arith}
 use Rattle.witness_rules.proofs.count_child.Goals as goal
