@@ -1,37 +1,51 @@
 -- A block to whose first bytes texts are added, one after the other. Assumes nothing.
 use mathlib.Core.List.{List, [], ◌∷◌, ◌++◌, append_assoc}
-use mathlib.Core.Path.{◌≡◌, refl, sym, ap, ◌∙◌}
-use Prim.Native.Nat.{ℕ, ◌+◌, ◌-◌, ◌≤◌}
+use mathlib.Core.Path.{◌≡◌, refl, sym, ap, subst, ◌∙◌}
+use Prim.Native.Nat.{ℕ, zero, suc, ◌+◌, ◌-◌, ◌/◌, ◌%◌, ◌^◌, ◌<◌, ◌≤◌}
+use native.Mathlib.Nat.{pow-suc}
 use native.Mathlib.Omega.{arith}
-use borrow.Rule.Slice.PartMut.{put_mid}
-use lib.ListN.{length, take, drop, length-append}
-use lib.Seq.{length-take-le, take-length, take_at, take-append-add}
-use Rattle.io.specs.Digits.{last_digits, IsDigitCount}
+use lib.ListN.{length, take, length-append}
+use lib.Seq.{take_at}
+use Rattle.std.specs.Fmt as Fmt
+use Rattle.std.proofs.lemmas.Fmt.{decimal_by_steps}
 use Rattle.witness_tally.specs.declared.Outcome.{Outcome}
-use Rattle.witness_tally.specs.declared.Outcome.TheVariants as Outcome
 use Rattle.witness_tally.specs.declared.Tally.{Tally}
 use Rattle.witness_lines.specs.Lines.{newline, space}
 use Rattle.witness_lines.specs.Report.{none_word, refused_word, inputs_word, smallest_word, largest_word}
-use Rattle.witness_lines.specs.Report.{Number, Ending, bytes, none, refused, ReportLine, Row, Rows, Appended, AppendedDigits, Shows}
+use Rattle.witness_lines.specs.Report.{last_digits, IsDigitCount, Number, Ending, bytes, none, refused, ReportLine, Row, Rows, Appended, AppendedDigits, Shows}
 
--- ---- one text
+-- ---- what std writes of a number is its digits
 
--- a text copied behind the first bytes
-pub copied : (text out : List ℕ) (used : ℕ) (part rest : List ℕ) {n : ℕ} → used + length text ≤ length out → n ≡ length text
-    → part ≡ take (length text) text ++ rest → length (put_mid used (length out - used) out part) ≡ length out
-    → Appended text out used (put_mid used (length out - used) out part) (used + n)
-copied text out used part rest {n} fits long is same =
-    let front : length (take used out) ≡ used = length-take-le used out (omega arith) in
-    let post = drop (length out - used) (drop used out) in
-    let whole : part ++ post ≡ text ++ (rest ++ post) =
-    ap (λ (s : List ℕ). s ++ post) (is ∙ ap (λ (s : List ℕ). s ++ rest) (take-length text)) ∙ append_assoc text rest post in
-    record {
-      counts = ap (λ (k : ℕ). used + k) long;
-      holds = ap (λ (k : ℕ). take (k + n) (take used out ++ (part ++ post))) (sym front)
-          ∙ take-append-add (take used out) (part ++ post) n
-          ∙ ap (λ (s : List ℕ). take used out ++ s) (ap (take n) whole ∙ take_at text (rest ++ post) n (sym long));
-      long = same;
-    }
+abbrev Spelled : ℕ → List ℕ → Type 0
+Spelled n ds = IsDigitCount n (length ds) × (ds ≡ last_digits (length ds) n)
+
+pub spelled : (n : ℕ) → n < 2 ^ 64 → Spelled n (Fmt.decimal n)
+spelled = decimal_by_steps Spelled one more
+  where
+    one : (n : ℕ) → n < 10 → Spelled n ((48 + n) ∷ [])
+    one n l =
+        let same : n % 10 ≡ n = omega arith in
+        let ten : 10 ^ 1 ≡ 10 = refl in
+        ((omega arith, omega (arith, l, ten), λ h. absurd (omega (arith, h))), rw same refl)
+
+    more : (n : ℕ) (ds : List ℕ) → 10 ≤ n → Spelled (n / 10) ds → Spelled n (ds ++ ((48 + n % 10) ∷ []))
+    more n ds l s =
+        let k = length ds in
+        let long : length (ds ++ ((48 + n % 10) ∷ [])) ≡ suc k = omega (arith, length-append ds ((48 + n % 10) ∷ [])) in
+        let next = pow-suc 10 k in
+        let few : n < 10 ^ suc k = omega (arith, s.0.1, next) in
+        let less : suc k - 1 ≡ k = omega arith in
+        let least : 10 ^ k ≤ n = at_least k s.0.0 s.0.2 in
+        subst (λ (m : ℕ). IsDigitCount n m × (ds ++ ((48 + n % 10) ∷ []) ≡ last_digits m n)) (sym long)
+        ((omega arith, few, λ h. subst (λ (x : ℕ). 10 ^ x ≤ n) (sym less) least), ap (λ (t : List ℕ). t ++ ((48 + n % 10) ∷ [])) s.1)
+      where
+        at_least : (k : ℕ) → 1 ≤ k → (1 < k → 10 ^ (k - 1) ≤ n / 10) → 10 ^ k ≤ n
+        at_least zero a b = absurd (omega (arith, a))
+        at_least (suc zero) a b = let ten : 10 ^ 1 ≡ 10 = refl in omega (arith, l, ten)
+        at_least (suc (suc k)) a b =
+            let less : suc (suc k) - 1 ≡ suc k = omega arith in
+            let h : 10 ^ suc k ≤ n / 10 = subst (λ (x : ℕ). 10 ^ x ≤ n / 10) less (b (omega arith)) in
+            omega (arith, h, pow-suc 10 (suc k))
 
 -- ---- one text after another
 
@@ -63,7 +77,7 @@ just {s} a = record { text = s; is = refl; few = omega arith; appended = a }
 -- ---- the lines of a report
 
 module _ {out out' out'' : List ℕ} {used i r : ℕ} where
-  pub number-shown : (n : ℕ) (row : List ℕ) {count : ℕ} → IsDigitCount 10 1 n count → take count row ≡ last_digits 10 count n
+  pub number-shown : (n : ℕ) (row : List ℕ) {count : ℕ} → IsDigitCount n count → take count row ≡ last_digits count n
       → Appended (space ∷ []) out used out' i → AppendedDigits row count out' i out'' r → Shows (Number n) 21 out used out'' r
   number-shown n row {count} fewest written a b =
       record {
@@ -72,6 +86,13 @@ module _ {out out' out'' : List ℕ} {used i r : ℕ} where
         few = omega (arith, b.few);
         appended = then-appended a b.appended;
       }
+
+  -- the number that std's formatting spells, whose text stands at the front of a row
+  pub text-shown : (n : ℕ) (rest : List ℕ) {text part : List ℕ} → n < 2 ^ 64 → text ≡ Fmt.decimal n → part ≡ text
+      → Appended (space ∷ []) out used out' i → AppendedDigits (part ++ rest) (length text) out' i out'' r → Shows (Number n) 21 out used out'' r
+  text-shown n rest {text} {part} h e same a b =
+      let s = subst (Spelled n) (sym e) (spelled n h) in
+      number-shown n (part ++ rest) s.0 (take_at part rest (length text) (ap length same) ∙ same ∙ s.1) a b
 
   pub line-shown : {shown : List ℕ} {o : Outcome} → Appended shown out used out' i → Shows (Ending o) 43 out' i out'' r
       → Shows (ReportLine shown o) (length shown + 43) out used out'' r

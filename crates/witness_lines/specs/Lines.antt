@@ -1,16 +1,19 @@
 -- The lines of a list of trees: document 02, R-9, and docs/WITNESS.md. Text is a list of bytes, in ASCII. Assumes nothing.
-use Rattle.std.specs.Prelude.{cond, List, [], ◌∷◌, ◌≡◌, ℕ, ◌+◌, ◌-◌, ◌≤◌, eqb, length, take, drop}
+use Rattle.std.specs.Prelude.{cond, List, [], ◌∷◌, ◌≡◌, ℕ, suc, ◌+◌, ◌-◌, ◌≤◌, eqb, length, take, drop}
 use Rattle.std.proofs.Math.Option.{Option, none, some}
-use Rattle.bytes.specs.Bytes.{index_of}
 use Rattle.numerals.specs.Numbers.{decimal}
 use Rattle.witness_lines.specs.declared.Line.{Line}
-use Rattle.witness_lines.specs.declared.Line.TheVariants as Line
 
 abbrev pub newline : ℕ
 newline = 10
 
 abbrev pub space : ℕ
 space = 32
+
+-- where a byte stands first in a list, the list's length where it doesn't
+unfoldable pub index_of : (sign : ℕ) → List ℕ → ℕ
+index_of sign [] = 0
+index_of sign (b ∷ s) = cond (eqb b sign) 0 (suc (index_of sign s))
 
 -- ---- the lines of a text
 

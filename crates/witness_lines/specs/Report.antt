@@ -1,18 +1,25 @@
 -- The lines of a report: document 02, R-9, and docs/WITNESS.md. Text is a list of bytes, in ASCII. Assumes nothing.
-use Rattle.std.specs.Prelude.{List, [], ◌∷◌, ◌++◌, ◌≡◌, ℕ, ◌+◌, ◌≤◌, length, take}
-use Rattle.io.specs.Digits.{last_digits, IsDigitCount}
+use Rattle.std.specs.Prelude.{List, [], ◌∷◌, ◌++◌, ◌≡◌, ℕ, zero, suc, ◌+◌, ◌-◌, ◌/◌, ◌%◌, ◌^◌, ◌<◌, ◌≤◌, length, take}
 use Rattle.witness_lines.specs.Lines.{newline, space}
 use Rattle.witness_tally.specs.declared.Outcome.{Outcome}
-use Rattle.witness_tally.specs.declared.Outcome.TheVariants as Outcome
 use Rattle.witness_tally.specs.declared.Tally.{Tally}
 
 -- ---- numbers and lines
 
+-- the last k decimal digits of n, the most significant first
+abbrev pub last_digits : ℕ → ℕ → List ℕ
+last_digits zero n = []
+last_digits (suc k) n = last_digits k (n / 10) ++ ((48 + n % 10) ∷ [])
+
+-- n takes k decimal digits
+abbrev pub IsDigitCount : ℕ → ℕ → Type 0
+IsDigitCount n k = (1 ≤ k) × (n < 10 ^ k) × (1 < k → 10 ^ (k - 1) ≤ n)
+
 -- a space and a number's decimal digits, with no needless zero in front
 pub record Number (n : ℕ) (text : List ℕ) : Type 0 where
   pub places : ℕ
-  pub fewest : IsDigitCount 10 1 n places
-  pub written : text ≡ space ∷ last_digits 10 places n
+  pub fewest : IsDigitCount n places
+  pub written : text ≡ space ∷ last_digits places n
 
 -- `none` and `refused`
 abbrev pub none_word : List ℕ

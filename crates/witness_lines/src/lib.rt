@@ -3,11 +3,11 @@
 // The contracts cite specs/Lines.antt (what a list says) and specs/Report.antt (the report's lines).
 #![tactic(auto)]
 
-ghost use Rattle.std.specs.Prelude.{◌≡◌, ◌+◌, ◌<◌, ◌≤◌, length};
-ghost use Rattle.witness_lines.specs.Lines.{EndsAt, shown_from, Reads};
+ghost use Rattle.std.specs.Prelude.{◌≡◌, ◌+◌, ◌<◌, ◌≤◌, length, drop};
+ghost use Rattle.witness_lines.specs.Lines.{index_of, EndsAt, shown_from, Reads};
 ghost use Rattle.witness_lines.specs.Report.{Number, Ending, ReportLine, Row, Rows, Appended, AppendedDigits, Shows};
 
-use bytes::scan::find;
+use itoa::Buffer;
 use numerals::{Number32, decimal};
 use witness_tally::{Outcome, Tally};
 
@@ -22,12 +22,28 @@ pub enum Line {
     Other,
 }
 
+// Where a byte stands first in a text, from a place on, or where the text ends.
+fn find(text: &[u8], from: usize, sign: u8) -> usize
+    requires { from ≤ length text.now }
+    ensures place { result ≡ from + index_of sign (drop from text.now) }
+    ensures within { result ≤ length text.now }
+{
+    let mut at = from;
+    while at < text.len() {
+        if text[at] == sign {
+            return at;
+        }
+        at += 1;
+    }
+    at
+}
+
 // Where the line of a text ends that begins at a place.
 pub fn line_end(text: &[u8], at: usize) -> usize
     requires { at < length text.now }
     ensures { EndsAt text.now at result }
 {
-    find(text, at, text.len(), NEWLINE)
+    find(text, at, NEWLINE)
 }
 
 // What a line says.
@@ -35,7 +51,7 @@ pub fn read_line(line: &[u8]) -> Line
     ensures { Reads line.now result }
 {
     let n = line.len();
-    let space = find(line, 0, n, SPACE);
+    let space = find(line, 0, SPACE);
     let Number32::Is(context) = decimal(&line[..space]) else {
         return Line::Other;
     };
@@ -60,8 +76,9 @@ fn append(text: &[u8], out: &mut [u8], used: usize) -> usize
     requires { used + length text.now ≤ length out.old }
     ensures { Appended text.now out.old used out.new result }
 {
-    let n = bytes::copy(text, &mut out[used..]);
-    used + n
+    let end = used + text.len();
+    out[used..end].copy_from_slice(text);
+    end
 }
 
 // Puts the first digits of a row there.
@@ -77,8 +94,11 @@ fn append_number(n: u64, out: &mut [u8], used: usize) -> usize
     requires { used + 21 ≤ length out.old }
     ensures { Shows (Number n) 21 out.old used out.new result }
 {
+    let mut buffer = Buffer::new();
+    let text = buffer.format(n).as_bytes();
+    let count = text.len();
     let mut digits = [0u8; 20];
-    let count = io::decimal(n, &mut digits);
+    digits[..count].copy_from_slice(text);
     let spaced = append(b" ", out, used);
     append_digits(digits, count, out, spaced)
 }
