@@ -8,7 +8,7 @@ use Rattle.contexts.specs.declared.Context.{Context}
 use Rattle.policies.specs.Policy.{Policy}
 use Rattle.policies.specs.Reading.{Answer, read_policy}
 use Rattle.definition.specs.Refusals.{BadWork}
-use Rattle.definition.specs.Compile.{Outcome, refused_with, compile_read, compile_in, context_of, compile}
+use Rattle.definition.specs.Compile.{refused_with, compile_read, compile_in, context_of, compile}
 use Rattle.moving.proofs.RoundTrips.{same-policy}
 use Rattle.movers.specs.Laws.{CompilesTheSame}
 

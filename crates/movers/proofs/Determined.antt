@@ -1,5 +1,5 @@
 -- The promise determines the outcome. Assumes nothing.
-use mathlib.Core.Path.{◌≡◌, sym, ◌∙◌}
+use mathlib.Core.Path.{sym, ◌∙◌}
 use Rattle.movers.specs.Promises.{MoveDetermined}
 
 pub move-determined : MoveDetermined

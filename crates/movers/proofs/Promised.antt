@@ -1,6 +1,5 @@
 -- What an entry gives is what moving answers. Assumes nothing.
 use mathlib.Core.List.{List}
-use mathlib.Core.Path.{◌≡◌}
 use Prim.Native.Nat.{ℕ}
 use lib.ListN.{length}
 use Rattle.moving.specs.declared.Form.{Form}
