@@ -8,13 +8,10 @@ use lib.ListN.{length, take, drop, length-drop}
 use lib.Seq.{length-take-le, take_all}
 use Rattle.files.specs.Rooms.{Within}
 use Rattle.files.specs.declared.Reading.{Reading}
-use Rattle.files.specs.declared.Reading.TheVariants as Reading
 use Rattle.witness_entry.specs.Witness.{work_words, WitnessPromise}
 use Rattle.witness_entry.proofs.FewBytes.{few_bytes}
 use Rattle.witness_lines.specs.declared.Line.{Line}
-use Rattle.witness_lines.specs.declared.Line.TheVariants as Line
 use Rattle.witness_tally.specs.declared.Outcome.{Outcome}
-use Rattle.witness_tally.specs.declared.Outcome.TheVariants as Outcome
 use Rattle.witness_lines.specs.Lines.{Said, input, said_in, shown_of, shown_from, shown_in, line_of, Reads}
 use Rattle.witness_lines.specs.Report.{ReportLine, Shows}
 use Rattle.witness_tally.specs.Tallies.{Small}

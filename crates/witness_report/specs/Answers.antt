@@ -2,7 +2,6 @@
 use Rattle.std.specs.Prelude.{List, [], ◌∷◌, ◌++◌, ◌≡◌, ℕ, zero, suc, ◌+◌, ◌≤◌, length, take}
 use Rattle.witness_entry.specs.Witness.{work_words, WitnessPromise}
 use Rattle.witness_tally.specs.declared.Outcome.{Outcome}
-use Rattle.witness_tally.specs.declared.Outcome.TheVariants as Outcome
 use Rattle.witness_tally.specs.declared.Tally.{Tally}
 use Rattle.witness_lines.specs.Lines.{lines_of, Said, input, other, shown_of, line_of}
 use Rattle.witness_lines.specs.Report.{ReportLine}

@@ -1,7 +1,7 @@
 // What a spend of each tree of a list costs: the report of docs/WITNESS.md, line by line.
 //
 // The contracts cite specs/Answers.antt: what may come of a line, and that the counts are those of its lines. No contract can say what is read from
-// a file or written to a descriptor.
+// a file or written to a handle.
 #![tactic(auto)]
 
 ghost use Rattle.std.specs.Prelude.{◌≡◌, ◌+◌, ◌≤◌, ◌<◌, length};
@@ -12,7 +12,8 @@ ghost use Rattle.witness_lines.specs.Report.{ReportLine};
 ghost use Rattle.witness_report.specs.Answers.{Costs, Answers, EndsWith, Reported, Tells, Lent};
 
 use files::{Reading, read_all};
-use libc::{STDERR_FILENO, STDOUT_FILENO};
+use std::io;
+use std::rt::Files;
 use witness_entry::claspwillow_witness;
 use witness_lines::{Line, append_line, append_rows, line_end, read_line, shown_from};
 use witness_tally::{Outcome, Tally, counted};
@@ -57,20 +58,35 @@ pub struct Ended {
 }
 
 // Reads the file of a path; says so where it can't.
-fn read_path(path: &[u8], room: &mut [u8]) -> Reading
+fn read_text<R: Files + Eprint>(rt: &R, path: &str, room: &mut [u8]) -> Reading
     ensures { Within (length room.new) result }
 {
-    let fd = os::open_read(path);
-    if fd < 0 {
-        os::fail(path);
-        return Reading::Failed;
+    match files::open(rt, path) {
+        Ok(mut source) => {
+            let r = read_all(&mut source, room);
+            if let Reading::Failed(e) = r {
+                files::fail(rt, path, e);
+            }
+            r
+        }
+        Err(e) => {
+            files::fail(rt, path, e);
+            Reading::Failed(e)
+        }
     }
-    let r = read_all(fd, room);
-    if let Reading::Failed = r {
-        os::fail(path);
+}
+
+// The same of a path in bytes.
+fn read_path<R: Files + Eprint>(rt: &R, path: &[u8], room: &mut [u8]) -> Reading
+    ensures { Within (length room.new) result }
+{
+    match files::path_text(path) {
+        Ok(text) => read_text(rt, text, room),
+        Err(e) => {
+            files::fail(rt, "the path", e);
+            Reading::Failed(e)
+        }
     }
-    libc::close(fd);
-    r
 }
 
 // What a spend of a tree costs.
@@ -92,41 +108,53 @@ fn costs(context: u32, tree: &[u8], work: &mut [u64]) -> Outcome
 }
 
 // What comes of an input.
-fn input(context: u32, path: &[u8], room: &mut [u8], work: &mut [u64]) -> Outcome
+fn input<R: Files + Eprint>(
+    rt: &R,
+    context: u32,
+    path: &[u8],
+    room: &mut [u8],
+    work: &mut [u64],
+) -> Outcome
     requires { (length room.old ≡ 65536) × (length work.old ≡ work_words) }
     ensures { Answers (Lines·input context path.now) result }
 {
-    match read_path(path, room) {
+    match read_path(rt, path, room) {
         Reading::Whole(n) => costs(context, &room[..n], work),
         Reading::TooLong => Outcome::Refused(TOO_LONG),
-        Reading::Failed => Outcome::Refused(UNREADABLE),
+        Reading::Failed(_) => Outcome::Refused(UNREADABLE),
     }
 }
 
 // What comes of a line, of which it was read what it says.
-fn answer(line: &[u8], said: Line, room: &mut [u8], work: &mut [u64]) -> Outcome
+fn answer<R: Files + Eprint>(
+    rt: &R,
+    line: &[u8],
+    said: Line,
+    room: &mut [u8],
+    work: &mut [u64],
+) -> Outcome
     requires { Reads line.now said × (length room.old ≡ 65536) × (length work.old ≡ work_words) }
     ensures { Answers (line_of line.now) result }
 {
     match said {
-        Line::Input(context, path) => input(context, &line[path..], room, work),
+        Line::Input(context, path) => input(rt, context, &line[path..], room, work),
         Line::Other => Outcome::Refused(OTHER_FORM),
     }
 }
 
 // Writes to standard output, unless a write has failed before, and answers whether none has; says so where one fails.
-fn written(text: &[u8], whole: bool) -> bool {
+fn written<R: Print + Eprint>(rt: &R, text: &[u8], whole: bool) -> bool {
     if whole {
-        if io::write_all(STDOUT_FILENO, text) {
-            return true;
+        match rt.write_all(text) {
+            Ok(()) => return true,
+            Err(e) => files::fail(rt, "standard output", e),
         }
-        os::fail(b"standard output");
     }
     false
 }
 
 // A block with room for so many bytes more: it is written if it is full or has none.
-fn with_room(most: usize, out: &[u8], b: Block) -> Block
+fn with_room<R: Print + Eprint>(rt: &R, most: usize, out: &[u8], b: Block) -> Block
     requires { (b.used ≤ length out.now) × (most ≤ length out.now) }
     ensures { result.used + most ≤ length out.now }
 {
@@ -138,46 +166,65 @@ fn with_room(most: usize, out: &[u8], b: Block) -> Block
     }
     Block {
         used: 0,
-        whole: written(&out[..used], b.whole),
+        whole: written(rt, &out[..used], b.whole),
     }
 }
 
 // Puts the line of the report for a line of the list into a block.
-fn show(line: &[u8], said: Line, o: Outcome, out: &mut [u8], b: Block) -> Block
+fn show<R: Print + Eprint>(
+    rt: &R,
+    line: &[u8],
+    said: Line,
+    o: Outcome,
+    out: &mut [u8],
+    b: Block,
+) -> Block
     requires { Reads line.now said × (b.used ≤ length out.old) × (length line.now + 43 ≤ length out.old) }
     ensures { EndsWith (ReportLine (shown_in line.now said) o) out.new result }
 {
     let from = shown_from(said);
-    let begun = with_room(line.len() + MOST, out, b);
+    let begun = with_room(rt, line.len() + MOST, out, b);
     let whole = begun.whole;
     let used = append_line(&line[from..], o, out, begun.used);
     Block { used, whole }
 }
 
 // What comes of a line, and the block with its line of the report.
-fn tell(line: &[u8], room: &mut [u8], work: &mut [u64], out: &mut [u8], b: Block) -> Told
+fn tell<R: Files + Print + Eprint>(
+    rt: &R,
+    line: &[u8],
+    room: &mut [u8],
+    work: &mut [u64],
+    out: &mut [u8],
+    b: Block,
+) -> Told
     requires { (length room.old ≡ 65536) × (length work.old ≡ work_words) × (b.used ≤ length out.old) × (length line.now + 43 ≤ length out.old) }
     ensures { Tells line.now out.new result }
 {
     let said = read_line(line);
-    let outcome = answer(line, said, room, work);
-    let block = show(line, said, outcome, out, b);
+    let outcome = answer(rt, line, said, room, work);
+    let block = show(rt, line, said, outcome, out, b);
     Told { outcome, block }
 }
 
 // Says on standard error how many lines are done, where that is a terminal.
-fn progress(lines: u64) {
+fn progress(rt: &impl Eprint, terminal: bool, lines: u64) {
     if lines % STEP == 0 {
-        if libc::isatty(STDERR_FILENO) == 1 {
-            io::write_all(STDERR_FILENO, b"witness: ");
-            io::print_decimal(STDERR_FILENO, lines);
-            io::write_all(STDERR_FILENO, b" lines\n");
+        if terminal {
+            let _ = eprintln!(rt; "witness: {lines} lines");
         }
     }
 }
 
 // Puts the lines of a text's lines into blocks, writes those that are full, and counts. What the last block holds is left to be written.
-fn lines(text: &[u8], room: &mut [u8], work: &mut [u64], out: &mut [u8]) -> Ended
+fn lines<R: Files + Print + Eprint>(
+    rt: &R,
+    terminal: bool,
+    text: &[u8],
+    room: &mut [u8],
+    work: &mut [u64],
+    out: &mut [u8],
+) -> Ended
     requires { Lent text.now room.old work.old out.old }
     ensures { Reported text.now result.tally × (result.block.used ≤ length out.new) }
 {
@@ -195,23 +242,31 @@ fn lines(text: &[u8], room: &mut [u8], work: &mut [u64], out: &mut [u8]) -> Ende
     let mut at = 0;
     while at < text.len() {
         let end = line_end(text, at);
-        let told = tell(&text[at..end], room, work, out, block);
+        let told = tell(rt, &text[at..end], room, work, out, block);
         let outcome = told.outcome;
         block = told.block;
         tally = counted(tally, outcome);
-        progress(tally.inputs);
+        progress(rt, terminal, tally.inputs);
         at = end + 1;
     }
     Ended { tally, block }
 }
 
-// Writes the report on a list: a line for each of its lines, then the counts and sums.
-pub fn report(text: &[u8], room: &mut [u8], work: &mut [u64], out: &mut [u8])
+// Writes the report on a list: a line for each of its lines, then the counts and sums. Where standard error is a terminal it is told how many lines
+// are done.
+pub fn report<R: Files + Print + Eprint>(
+    rt: &R,
+    terminal: bool,
+    text: &[u8],
+    room: &mut [u8],
+    work: &mut [u64],
+    out: &mut [u8],
+)
     requires { Lent text.now room.old work.old out.old }
 {
-    let ended = lines(text, room, work, out);
+    let ended = lines(rt, terminal, text, room, work, out);
     let tally = ended.tally;
-    let begun = with_room(ROWS, out, ended.block);
+    let begun = with_room(rt, ROWS, out, ended.block);
     let used = append_rows(tally, out, begun.used);
-    written(&out[..used], begun.whole);
+    written(rt, &out[..used], begun.whole);
 }
