@@ -1,13 +1,13 @@
 -- What a record's rule makes of children that have entered is a candidate, one higher. Assumes nothing.
-use Prim.Native.Nat.{ℕ, ◌+◌, ◌<◌}
+use Prim.Native.Nat.{ℕ, zero, suc, ◌+◌, ◌≤◌, ◌<◌}
 use mathlib.Core.Bool.{Bool, true, false, cond}
 use mathlib.Core.List.{List, [], ◌∷◌}
 use mathlib.Core.Option.{some}
-use mathlib.Core.Path.{◌≡◌, refl}
+use mathlib.Core.Path.{◌≡◌, refl, sym, subst}
 use native.Mathlib.Omega.{arith}
 use borrow.Author.Tests.{eqb-true}
 use lib.Dec.{eqb}
-use lib.ListN.{length, take}
+use lib.ListN.{length, get_or, take}
 use lib.Seq.{get_or-take, length-take-le}
 use Rattle.records.specs.Numbers.{between}
 use Rattle.contexts.specs.declared.Context.{Context}
@@ -20,7 +20,7 @@ use Rattle.figures.proofs.Entering.{multi-a-candidate, sha256-candidate, hash256
 use Rattle.figures.proofs.Entering.{older-candidate, alt-candidate, swap-candidate, check-candidate, dupif-candidate, verify-candidate}
 use Rattle.figures.proofs.Entering.{nonzero-candidate, zeronotequal-candidate, and-b-candidate, and-v-candidate, or-b-candidate, or-d-candidate}
 use Rattle.figures.proofs.Entering.{or-c-candidate, or-i-candidate, and-or-candidate}
-use Rattle.thresholds.specs.Threshold.{threshold}
+use Rattle.thresholds.specs.Threshold.{threshold, AllEntered}
 use Rattle.thresholds.proofs.Making.{all-entered, threshold-candidate}
 use Rattle.figure_rules.specs.ByKind.{or_else, lock_or_hash, leaf_of, cast_of, pair_of, blank, child, figures_by, Ready}
 

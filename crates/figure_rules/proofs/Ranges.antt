@@ -1,20 +1,20 @@
 -- Which rule a kind has, a range of kinds at a time. Assumes nothing.
 use Prim.Native.Nat.{ℕ, ◌≤◌, ◌<◌}
-use mathlib.Core.List.{List}
+use mathlib.Core.List.{List, [], ◌∷◌}
 use mathlib.Core.Logic.{◌⊎◌, inl, inr}
-use mathlib.Core.Path.{◌≡◌}
+use mathlib.Core.Path.{◌≡◌, sym, ap, ◌∙◌}
 use native.Mathlib.Omega.{arith}
 use borrow.Author.Tests.{le-leb, lt-leb, ne_eqb}
-use lib.ListN.{length, take}
+use lib.ListN.{length, take, get_or}
 use lib.Seq.{get_or-take, length-take-le}
 use Rattle.contexts.specs.declared.Context.{Context}
 use Rattle.figures.specs.declared.ExtData.{ExtData}
-use Rattle.figures.specs.Bounds.{Small}
+use Rattle.figures.specs.Bounds.{Small, Entered}
 use Rattle.figures.specs.Rules.{and_or}
-use Rattle.figures.proofs.Entering.{entered-small}
+use Rattle.figures.proofs.Entering.{entered-small, entered-higher}
 use Rattle.thresholds.specs.Threshold.{threshold, Children}
 use Rattle.thresholds.proofs.Making.{all-entered, entered-children}
-use Rattle.figure_rules.specs.ByKind.{leaf_of, cast_of, pair_of, child, figures_by, Ready}
+use Rattle.figure_rules.specs.ByKind.{lock_or_hash, leaf_of, cast_of, pair_of, child, figures_by, Ready}
 
 module _ (c : Context) (kind number k n : ℕ) (xs : List ExtData) where
   pub of-cast : 42 ≤ kind → kind < 49 → cast_of kind (child xs 0) ≡ figures_by c kind number k n xs

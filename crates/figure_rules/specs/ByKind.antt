@@ -1,6 +1,6 @@
 -- The figures of a record's fragment by its kind, from its number, its k, how many children or keys it has, and its children's figures:
 -- document 01, "Records", and `figures`, specs/Rules.antt. `tree_figures` shows that these are the figures of the fragment.
-use Rattle.std.specs.Prelude.{ℕ, ◌≤◌, ◌<◌, false, cond, List, [], ◌∷◌, eqb, length, get_or, take}
+use Rattle.std.specs.Prelude.{ℕ, ◌≤◌, ◌<◌, false, cond, List, [], ◌∷◌, ◌≡◌, eqb, length, get_or, take}
 use Rattle.std.proofs.Math.Option.{Option, none, some}
 use Rattle.records.specs.Numbers.{between}
 use Rattle.contexts.specs.declared.Context.{Context}

@@ -14,6 +14,7 @@ use Rattle.trees.specs.Reading.{Slots}
 use Rattle.types.specs.declared.«Type».{«Type»}
 use Rattle.types.specs.TypeRules as rule
 use Rattle.trees.specs.declared.Slot.{Slot}
+use Rattle.trees.specs.declared.Slot.TheVariants as Slot
 use Rattle.trees.specs.WorkMemory.{slot_of, slot_answer}
 use Rattle.trees.proofs.InMemory.{slot_added, free-slot, taken-slot}
 use Rattle.index_memory.specs.Memory.{size_digit, size_in, first_in, or_none, subtree_in, tree_word}

@@ -1,10 +1,10 @@
 -- The keys of a policy that is read are those of its records, so that 18 is given exactly if one of them is too large: specs/Laws.antt.
 -- Assumes nothing.
-use mathlib.Core.Path.{◌≡◌, refl, sym, ap, ◌∙◌}
+use mathlib.Core.Path.{◌≡◌, refl, sym, ap, subst, ◌∙◌}
 use mathlib.Core.Bool.{Bool, true, false, cond, ◌||◌, ◌&&◌}
 use mathlib.Core.List.{List, [], ◌∷◌, ◌++◌}
 use mathlib.Core.Option.{Option, none, some}
-use Prim.Native.Nat.{ℕ, zero, suc, ◌≤◌}
+use Prim.Native.Nat.{ℕ, zero, suc, ◌+◌, ◌<◌, ◌≤◌}
 use native.Mathlib.Omega.{arith}
 use borrow.Author.Tests.{leb-true, eqb-true, eqb-false, le-ltb}
 use lib.Dec.{eqb, leb, ltb}
@@ -14,17 +14,18 @@ use Rattle.records.specs.Payloads as payload
 use Rattle.records.specs.Payloads.{Payload, number, written_kind, number_in, payload_of, children_of, number_of}
 use Rattle.records.specs.RecordForm.{kind_of, policy_payload}
 use Rattle.records.specs.declared.Shape.{Shape}
+use Rattle.records.specs.declared.Shape.TheVariants as Shape
 use Rattle.records.proofs.Laws.{policy-record, is-nothing, is_number, is-lock, is-two-children, is-weighted}
 use Rattle.records.proofs.Widths.{Long, key, one_key, more-keys, long-is, meant_itself, meant-one, meant-more}
 use Rattle.writing.specs.WellFormed.{AllBelow}
 use Rattle.writing.proofs.Kept.{no-some, below-drop}
-use Rattle.policies.specs.Policy.{Policy, from_list, depth}
+use Rattle.policies.specs.Policy.{Policy, Policies, from_list, depth}
 use Rattle.policies.specs.Forms.{made, nth}
-use Rattle.policies.specs.Reading.{refused, done, ◌>>=◌, or_refuse, refuse_if, Slots, Next, slot, if_there, without, the_policy, those, written}
+use Rattle.policies.specs.Reading.{Answer, refused, done, ◌>>=◌, or_refuse, refuse_if, Slots, Next, slot, if_there, without, the_policy, those, written}
 use Rattle.policies.specs.Reading.{bad_policy, policy_too_large, max_depth, max_records, root_of, finish, read_from, read_policy}
 use Rattle.policies.proofs.Ranges.{each}
 use Rattle.moving.specs.declared.Form.TheVariants.{Old, New}
-use Rattle.moving.specs.Moving.{moves, too_large, records_of, any, moved_policy, key_too_large}
+use Rattle.moving.specs.Moving.{moves, too_large, records_of, any, moved_policy, move, key_too_large}
 use Rattle.moving.specs.Laws.{key_over, any_over, fitting, ToOld}
 use Rattle.moving.proofs.Keys.{large-key, large-other}
 use Rattle.moving.proofs.Records.{large, or-false, or_assoc}

@@ -2,11 +2,11 @@
 use mathlib.Core.Path.{◌≡◌, refl, sym, ap, subst, ◌∙◌}
 use mathlib.Core.Bool.{Bool, true, false, cond}
 use mathlib.Core.List.{List, [], ◌∷◌, ◌++◌, append-nil}
-use mathlib.Core.Option.{Option, some}
+use mathlib.Core.Option.{Option, none, some}
 use Prim.Native.Nat.{ℕ, ◌+◌, ◌*◌, ◌/◌, ◌%◌, ◌^◌, ◌<◌, ◌≤◌}
 use native.Mathlib.Omega.{arith}
-use borrow.Author.Tests.{le-leb, eqb-true, eq-eqb, ltb-false, le-ltb}
-use lib.Dec.{ltb, eqb}
+use borrow.Author.Tests.{le-leb, eqb-true, eq-eqb, ne_eqb, ltb-false, le-ltb}
+use lib.Dec.{leb, ltb, eqb}
 use lib.ListN.{length, take, drop, length-append, length-drop, take-append-drop}
 use lib.Seq.{length-take-le, take-append-le, take_all, drop-drop}
 use Rattle.words.specs.Bytes.{little, bytes_of, le_at}
@@ -18,15 +18,16 @@ use Rattle.records.specs.Payloads.{Payload, number, written_kind, width, number_
 use Rattle.records.specs.RecordForm.{when_whole, record_length, kind_of, policy_payload}
 use Rattle.records.specs.declared.Shape.TheVariants as Shape
 use Rattle.records.proofs.Laws.{length-bounds, of-policy, is_number}
+use Rattle.writing.specs.Writing.{record_of}
 use Rattle.writing.specs.WellFormed.{AllBelow}
 use Rattle.writing.proofs.Rows.{number-at}
-use Rattle.writing.proofs.OneRecord.{Wide, length-record, record-whole, number-back}
+use Rattle.writing.proofs.OneRecord.{Wide, length-record, record-whole, record-kind, number-back}
 use Rattle.writing.proofs.Kept.{below-take, below-drop}
 use Rattle.writing.proofs.WellRead.{number-below}
 use Rattle.moving.specs.declared.Form.{Form}
 use Rattle.moving.specs.declared.Form.TheVariants.{Old, New}
-use Rattle.moving.specs.Moving.{key_kind, key_width, key_record, other, moves, moved, too_large}
-use Rattle.moving.proofs.Keys.{moved-key, moved_other, large-key, large-other}
+use Rattle.moving.specs.Moving.{key_kind, key_width, key_record, other, exceeds, moves, moved, too_large}
+use Rattle.moving.proofs.Keys.{length-key, moved-key, moved_other, large-key, large-other}
 
 -- ---- the bytes of a number that is read are those that stand there
 

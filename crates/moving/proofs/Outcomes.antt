@@ -1,17 +1,19 @@
 -- What moving answers, by what its parts told. Assumes nothing.
 use mathlib.Core.Path.{◌≡◌, refl, sym, ap, ◌∙◌}
 use mathlib.Core.Bool.{Bool, true, false}
-use mathlib.Core.List.{List, ◌++◌}
+use mathlib.Core.List.{List, [], ◌++◌}
 use mathlib.Core.Option.{none, some}
 use Prim.Native.Nat.{ℕ, ◌+◌, ◌<◌, ◌≤◌}
 use native.Mathlib.Omega.{arith}
 use borrow.Author.Tests.{lt-ltb, le-ltb}
 use lib.ListN.{length, drop}
 use lib.Seq.{sets, sets-eq}
+use Rattle.policies.specs.Policy.{Policy}
 use Rattle.policies.specs.Reading.{refused, done, read_policy}
 use Rattle.policies.specs.Array.{policy_at}
 use Rattle.policies.specs.Answers.{policy_answer, Read, PolicyRead, reads, bad-array}
 use Rattle.policies.specs.declared.ReadPolicy.{ReadPolicy}
+use Rattle.policies.specs.declared.ReadPolicy.TheVariants as ReadPolicy
 use Rattle.moving.specs.declared.Form.{Form}
 use Rattle.moving.specs.declared.Extent.{Extent}
 use Rattle.moving.specs.declared.Given.{Given}

@@ -3,13 +3,14 @@ use mathlib.Core.Path.{◌≡◌, refl, sym, ap, subst, ◌∙◌}
 use mathlib.Core.Bool.{Bool, true, false, ◌||◌}
 use mathlib.Core.List.{List, [], ◌∷◌, ◌++◌, map}
 use mathlib.Core.Option.{Option, none, some}
-use Prim.Native.Nat.{ℕ, zero, suc, ◌≤◌}
+use Prim.Native.Nat.{ℕ, zero, suc, ◌+◌, ◌<◌, ◌≤◌}
 use native.Mathlib.Omega.{arith}
 use lib.ListN.{length, take, drop, length-append, take-append-drop}
-use lib.Seq.{take-append_seam, drop-append_seam}
+use lib.Seq.{length-take-le, take-append_seam, drop-append_seam}
 use Rattle.words.specs.Bytes.{le_at}
 use Rattle.records.specs.Payloads.{Payload, children_of}
 use Rattle.records.specs.RecordForm.{record_length, kind_of, policy_payload}
+use Rattle.records.proofs.Laws.{length-bounds}
 use Rattle.writing.specs.WellFormed.{AllBelow}
 use Rattle.writing.proofs.Kept.{below-take, below-drop}
 use Rattle.policies.specs.Policy.{Policy}

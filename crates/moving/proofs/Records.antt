@@ -1,5 +1,5 @@
 -- The records of some bytes, one by one, and what is still to come of measuring and of writing them. Assumes nothing.
-use mathlib.Core.Path.{◌≡◌, refl, sym, ap, ◌∙◌}
+use mathlib.Core.Path.{◌≡◌, refl, sym, ap, subst, ◌∙◌}
 use mathlib.Core.Bool.{Bool, true, false, ◌||◌}
 use mathlib.Core.List.{List, [], ◌∷◌, ◌++◌, map}
 use mathlib.Core.Option.{Option, none, some}
@@ -12,6 +12,7 @@ use Rattle.records.specs.RecordForm.{record_length}
 use Rattle.records.proofs.Laws.{length-bounds}
 use Rattle.walk.specs.TreeRecords.{length_from}
 use Rattle.moving.specs.declared.Form.{Form}
+use Rattle.moving.specs.declared.Extent.{Extent}
 use Rattle.moving.specs.Moving.{moved, too_large, records_from, records_of, in_order, any, moved_policy}
 use Rattle.moving.specs.Answers.{extent_of}
 use Rattle.moving.proofs.Keys.{moved-empty, empty-fits, moved-few, then-sets}

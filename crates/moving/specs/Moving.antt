@@ -1,6 +1,6 @@
 -- What moving a policy is: document 02, R-3. Kinds 3 and 19 are a Key with a number of 32 and of 64 bits; all other records stay, and so does the
 -- order. Assumes nothing.
-use Rattle.std.specs.Prelude.{Bool, false, cond, ◌||◌, ◌&&◌, List, [], ◌∷◌, ◌++◌, map, ℕ, zero, suc, eqb, ltb, length, take, drop}
+use Rattle.std.specs.Prelude.{Bool, true, false, cond, ◌||◌, ◌&&◌, List, [], ◌∷◌, ◌++◌, map, ℕ, zero, suc, eqb, ltb, length, take, drop}
 use Rattle.std.proofs.Math.Option.{Option, none, some}
 use Rattle.words.specs.Bytes.{bytes_of}
 use Rattle.records.specs.Payloads.{written_kind, number_in}

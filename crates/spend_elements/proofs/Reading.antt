@@ -1,13 +1,13 @@
 -- At most four bytes are read as a number.
-use Prim.Native.Nat.{ℕ, ◌+◌, ◌-◌, ◌≤◌, ◌<◌}
+use Prim.Native.Nat.{ℕ, zero, suc, ◌+◌, ◌*◌, ◌-◌, ◌%◌, ◌≤◌, ◌<◌}
 use native.Mathlib.Omega.{arith}
-use mathlib.Core.Bool.{Bool, true, false}
+use mathlib.Core.Bool.{Bool, true, false, cond}
 use mathlib.Core.List.{[], ◌∷◌}
-use mathlib.Core.Path.{◌≡◌, refl, sym}
+use mathlib.Core.Path.{◌≡◌, refl, ◌∙◌, sym, ap}
 use borrow.Author.Tests.{le-leb, lt-leb, leb-true, leb-false}
 use lib.Dec.{leb}
-use lib.IntN.{pos, neg_ℤ}
-use lib.ListN.{length}
+use lib.IntN.{ℤ, pos, neg_ℤ}
+use lib.ListN.{length, get_or}
 use Rattle.script_machine.specs.Numbers.{Bytes, read, magnitude, negative}
 use Rattle.spend_elements.specs.Signed.{sign_bit, Valued}
 

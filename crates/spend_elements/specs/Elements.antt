@@ -1,5 +1,5 @@
 -- The bytes of an element of the replay's stacks, which is a range of the log or a few bytes held in place of one.
-use Rattle.std.specs.Prelude.{ℕ, ◌-◌, Bool, true, false, not, cond, [], ◌∷◌, leb, ltb, eqb, take, drop}
+use Rattle.std.specs.Prelude.{ℕ, ◌-◌, Bool, true, false, not, cond, List, [], ◌∷◌, leb, ltb, eqb, take, drop}
 use Rattle.words.specs.Bytes.{bytes_of}
 use Rattle.script_machine.specs.Numbers.{Bytes, same}
 use Rattle.spend_elements.specs.declared.Element.{Element}

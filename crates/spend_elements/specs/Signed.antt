@@ -1,5 +1,5 @@
 -- Script's numbers by sign and size: document 01, "What a fragment's script does" (number operands have at most 4 bytes).
-use Rattle.std.specs.Prelude.{ℕ, zero, suc, ◌+◌, ◌*◌, ◌<◌, Bool, true, false, ◌≡◌, leb, ℤ, pos, neg_ℤ, length, get_or}
+use Rattle.std.specs.Prelude.{ℕ, zero, suc, ◌+◌, ◌*◌, ◌<◌, Bool, true, false, cond, List, ◌≡◌, leb, ℤ, pos, neg_ℤ, length, get_or}
 use Rattle.script_machine.specs.Numbers.{Bytes, read}
 use Rattle.spend_elements.specs.declared.Number.{Number}
 

@@ -6,6 +6,7 @@ use native.Mathlib.Omega.{arith}
 use lib.ListN.{length, length-append}
 use Rattle.contexts.specs.Lists.{sum, one, count}
 use Rattle.witness_tally.specs.declared.Outcome.{Outcome}
+use Rattle.witness_tally.specs.declared.Outcome.TheVariants as Outcome
 use Rattle.witness_tally.specs.declared.Tally.{Tally}
 use Rattle.witness_tally.specs.Tallies.{is_none, is_refused, fewest, most, tally_of, counted, Small, Few, Accounts}
 

@@ -2,6 +2,7 @@
 use Rattle.std.specs.Prelude.{Bool, true, false, List, ◌≡◌, ℕ, ◌+◌, ◌*◌, ◌≤◌, length}
 use Rattle.contexts.specs.Lists.{sum, count}
 use Rattle.witness_tally.specs.declared.Outcome.{Outcome}
+use Rattle.witness_tally.specs.declared.Outcome.TheVariants as Outcome
 use Rattle.witness_tally.specs.declared.Tally.{Tally}
 
 -- the three kinds of outcome

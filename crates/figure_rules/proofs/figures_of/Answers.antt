@@ -1,8 +1,9 @@
 use Rattle.std.proofs.Common.{rules}
 use native.Mathlib.Omega.{arith}
-use mathlib.Core.Path.{◌≡◌}
+use mathlib.Core.Path.{◌≡◌, ◌∙◌}
+use mathlib.Core.Logic.{⊎_elim, inl, inr}
 use lib.ListN.{length}
-use Rattle.figure_rules.proofs.Ranges.{children}
+use Rattle.figure_rules.proofs.Ranges.{of-cast, of_pair, of-and-or, of-thresh, of-leaf, small, children}
 use Rattle.figure_rules.proofs.figures_of.Goals as goal
 
 pub leaf-requires : goal.leaf-requires

@@ -2,8 +2,13 @@ use mathlib.Core.Bool.{Bool, not, cond}
 use mathlib.Core.Path.{ap}
 use Rattle.spend_elements.proofs.equal.Goals as goal
 -- `spend_elements::equal` meets its contract. Assumes nothing.
-use mathlib.Core.Path.{sym, ◌∙◌}
+use native.Mathlib.Omega.{arith}
+use mathlib.Core.Path.{◌≡◌, sym, ◌∙◌}
 use Rattle.spend_elements.proofs.Writing.{equal-sizes, equal-zeros, equal-signs}
+use Rattle.spend_elements.proofs.equal.Statement.{statement}
+use Rattle.spend_elements.proofs.equal.Tie as tie
+use Rattle.spend_elements.proofs.equal.Reads as reads
+use Rattle.spend_elements.proofs.equal.Lts as lts
 
 pub returns-then-m-n : goal.returns-then-m-n
 returns-then-m-n c = sym (equal-sizes c.args.a.negative c.args.b.negative c.args.a.size c.args.b.size c.if-m-n.true)
