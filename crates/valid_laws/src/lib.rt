@@ -3,4 +3,3 @@
 // specs/CompiledValid.antt states it. proofs/Searching.antt has what every entry of every table has, whatever it is, if it is so of what enters;
 // proofs/Making.antt that it is so of local validity; proofs/Compiling.antt the tree that is written.
 #![tactic(auto)]
-
