@@ -1,13 +1,12 @@
 // What was given for a case of the stored list: whether it is what the case's line says, and how the list writes it, on standard output.
 //
-// The contract of `agrees` cites specs/Answers.antt. No contract can say what is written to a descriptor.
+// The contract of `agrees` cites specs/Answers.antt. No contract can say what is written to standard output; a write there that fails is passed over.
 #![tactic(auto)]
 
 ghost use Rattle.std.specs.Prelude.{◌≡◌, ◌<◌};
 ghost use Rattle.definition.specs.AnswersOfTheRust.{same_bytes};
 ghost use Rattle.oracle_answers.specs.Answers.{answers};
 
-use libc::STDOUT_FILENO;
 use oracle_lines::Said;
 
 // Whether a and b hold the same bytes.
@@ -52,49 +51,49 @@ fn digit_of(d: u8) -> u8
 }
 
 // Writes the two digits of a byte.
-fn show_byte(b: u8) {
+fn show_byte(rt: &impl Print, b: u8) {
     let text = [digit_of(b / 16), digit_of(b % 16)];
-    io::write_all(STDOUT_FILENO, &text);
+    let _ = rt.write_all(&text);
 }
 
 // Writes records as the list has them.
-fn show_records(s: &[u8]) {
+fn show_records(rt: &impl Print, s: &[u8]) {
     if s.len() == 0 {
-        io::write_all(STDOUT_FILENO, b"-");
+        let _ = rt.write_all(b"-");
         return;
     }
     let mut i = 0;
     while i < s.len() {
-        show_byte(s[i]);
+        show_byte(rt, s[i]);
         i += 1;
     }
 }
 
 // Writes 64 bits as the list has them.
-fn show_bits(w: u64) {
+fn show_bits(rt: &impl Print, w: u64) {
     let mut place: u64 = 72_057_594_037_927_936;
     while 0 < place {
-        show_byte((w / place % 256) as u8);
+        show_byte(rt, (w / place % 256) as u8);
         place /= 256;
     }
 }
 
 // Writes a cost as the list has it.
-fn show_cost(cost: u64, never: u32) {
+fn show_cost(rt: &impl Print, cost: u64, never: u32) {
     if never == 1 {
-        io::write_all(STDOUT_FILENO, b"-");
+        let _ = rt.write_all(b"-");
         return;
     }
-    show_bits(cost);
+    show_bits(rt, cost);
 }
 
 // Writes what was given for a case as a line of the list ends.
-pub fn show_answer(number: u32, output: &[u8], cost: u64, never: u32, nodes: u64) {
-    io::print_decimal(STDOUT_FILENO, number as u64);
-    io::write_all(STDOUT_FILENO, b" ");
-    show_records(output);
-    io::write_all(STDOUT_FILENO, b" ");
-    show_cost(cost, never);
-    io::write_all(STDOUT_FILENO, b" ");
-    io::print_decimal(STDOUT_FILENO, nodes);
+pub fn show_answer(rt: &impl Print, number: u32, output: &[u8], cost: u64, never: u32, nodes: u64) {
+    let _ = print!(rt; "{number}");
+    let _ = rt.write_all(b" ");
+    show_records(rt, output);
+    let _ = rt.write_all(b" ");
+    show_cost(rt, cost, never);
+    let _ = rt.write_all(b" ");
+    let _ = print!(rt; "{nodes}");
 }

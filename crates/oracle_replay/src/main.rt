@@ -1,7 +1,7 @@
 // Runs a stored list of the Rust's answers against the port and counts the lines that agree, that differ and that are broken.
 //
 // What a line says and what comes of it stand in the crates `oracle_lines` and `oracle_verdicts`, whose definitions the contracts cite. No contract can say what
-// is written to a descriptor.
+// is written to standard output.
 #![tactic(auto)]
 
 mod showing;
@@ -10,15 +10,16 @@ ghost use Rattle.std.specs.Prelude.{◌≡◌, ◌≤◌, length};
 ghost use Rattle.oracle_verdicts.specs.Verdicts.{Lent, tally_of};
 
 use files::Loaded;
-use libc::STDERR_FILENO;
 use oracle_lines::end_of;
 use oracle_verdicts::{Tally, counted, judge_line};
 use showing::{show, show_tally};
+use std::rt::{Env, Files};
 
 const NEWLINE: u8 = 10;
 
 // Runs every line of a text, shows those that differ or are broken, and counts.
 fn replay(
+    rt: &impl Print,
     text: &[u8],
     policy: &mut [u8],
     stored: &mut [u8],
@@ -38,7 +39,7 @@ fn replay(
     loop {
         let end = end_of(text, at, NEWLINE);
         let v = judge_line(&text[at..end], policy, stored, out, work);
-        show(n, v, out);
+        show(rt, n, v, out);
         t = counted(t, v);
         if end == text.len() {
             return t;
@@ -49,42 +50,46 @@ fn replay(
 }
 
 // Lends a text what it needs: room for every policy and output that it can hold, room for an output of 4,096 records, and work memory.
-fn run(text: &[u8])
+fn run(rt: &impl Print, text: &[u8])
     requires { length text.now ≤ 524288 }
 {
     let mut policy = [0u8; 262_144];
     let mut stored = [0u8; 262_144];
     let mut out = [0u8; 557_056];
     let mut work = [0u64; 612_360];
-    show_tally(replay(text, &mut policy, &mut stored, &mut out, &mut work));
+    show_tally(
+        rt,
+        replay(rt, text, &mut policy, &mut stored, &mut out, &mut work),
+    );
 }
 
 // Reads the list into a room of one byte more than it may have, and runs it.
-fn run_in(room: &mut [u8])
+fn run_in<R: Env + Files + Input + Print + Eprint>(rt: &R, room: &mut [u8])
     requires { length room.old ≡ 524289 }
 {
     let Loaded::Bytes(n) = files::load_word(
+        rt,
         1,
-        b"LIST",
+        "LIST",
         false,
-        b": longer than 524,288 bytes\n",
+        ": longer than 524,288 bytes\n",
         room,
     ) else {
         return;
     };
-    run(&room[..n]);
+    run(rt, &room[..n]);
 }
 
 // Runs the list that the words name.
-fn run_list() {
+fn run_list<R: Env + Files + Input + Print + Eprint>(rt: &R) {
     let mut room = [0u8; 524_289];
-    run_in(&mut room);
+    run_in(rt, &mut room);
 }
 
-fn main() {
-    if os::arg_count() == 2 {
-        run_list();
+fn main(rt: HostRuntime) {
+    if files::word_count(&rt) == 2 {
+        run_list(&rt);
     } else {
-        io::write_all(STDERR_FILENO, b"usage: replay LIST\n");
+        files::say(&rt, "usage: replay LIST\n");
     }
 }

@@ -2,13 +2,12 @@
 use mathlib.Core.Bool.{Bool, true, false, ◌&&◌}
 use mathlib.Core.List.{List, [], ◌∷◌}
 use mathlib.Core.Path.{◌≡◌, refl, sym, ap, subst, ◌∙◌}
-use Prim.Native.Nat.{ℕ, suc, ◌+◌, ◌-◌, ◌<◌, ◌≤◌}
-use native.Mathlib.Numerals.{add-one}
+use Prim.Native.Nat.{ℕ, ◌≤◌}
 use native.Mathlib.Omega.{arith}
-use borrow.Author.Tests.{eq-eqb, ne_eqb, eqb-true}
+use borrow.Author.Tests.{eq-eqb, eqb-true}
 use lib.Dec.{eqb}
-use lib.ListN.{length, take, drop, get_or, length-append, length-drop}
-use lib.Seq.{drop-cons, drop-length, take-append_seam}
+use lib.ListN.{length, take, drop, length-append, length-drop}
+use lib.Seq.{take-append_seam}
 use Rattle.memory.specs.Layout.{work_words}
 use Rattle.definition.specs.AnswersOfTheRust.{same_bytes}
 use Rattle.definition.specs.Compile.{Outcome, compiled, refused_with, compile}
@@ -18,9 +17,7 @@ use Rattle.oracle_lines.specs.Reads.{said_in, Tells, passes, tells, breaks}
 use Rattle.oracle_verdicts.specs.Verdicts.{output_of, agrees, judged, Judges, AgreesMeans}
 use Rattle.oracle_lines.specs.declared.Said.{Said}
 use Rattle.oracle_lines.specs.declared.Case.{Case}
-use Rattle.oracle_lines.specs.declared.Case.TheVariants as Case
 use Rattle.oracle_verdicts.specs.declared.Verdict.{Verdict}
-use Rattle.oracle_verdicts.specs.declared.Verdict.TheVariants as Verdict
 
 -- ---- what agreeing means
 

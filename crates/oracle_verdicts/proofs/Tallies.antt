@@ -10,7 +10,6 @@ use Rattle.oracle_lines.specs.Reads.{part, EndsAt}
 use Rattle.oracle_verdicts.specs.Verdicts.{verdict_of, counted, tallied, tally_of, none_yet, Lent}
 use Rattle.oracle_verdicts.specs.declared.Tally.{Tally}
 use Rattle.oracle_verdicts.specs.declared.Verdict.{Verdict}
-use Rattle.oracle_verdicts.specs.declared.Verdict.TheVariants as Verdict
 
 tallied-one : (room : ℕ) (t : Tally) (l : List ℕ) → tallied room t (l ∷ []) ≡ counted t (verdict_of room (line_of l))
 unfolding tallied

@@ -7,7 +7,6 @@ use Rattle.definition.specs.Compile.{Outcome, compiled, refused_with, compile}
 use Rattle.claspwillow.specs.Promises.{number_of_outcome, output_after, bytes_written, cost_given, never_given, nodes_used}
 use Rattle.oracle_lines.specs.Lines.{Line, passed, broken, says, newline, split, line_of}
 use Rattle.oracle_verdicts.specs.declared.Verdict.{Verdict}
-use Rattle.oracle_verdicts.specs.declared.Verdict.TheVariants as Verdict
 use Rattle.oracle_verdicts.specs.declared.Tally.{Tally}
 
 -- the bytes of the tree, none on a refusal
