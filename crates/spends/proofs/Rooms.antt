@@ -9,7 +9,6 @@ use Rattle.words.proofs.Bytes.{length-bytes}
 use Rattle.trees.specs.Reading.{Answer, refused, done}
 use Rattle.spend_machine.specs.Verdicts.{verdict_number}
 use Rattle.spend_log.specs.Written.{several_bytes}
-use Rattle.spend_lines.specs.Lines.{Shows}
 use Rattle.spend_replay.specs.Replay.{Report, report_bytes, replay_of, reports_after, entries_replayed, ReplayPromise}
 
 -- a room of zeros has its length
@@ -42,7 +41,3 @@ pub reports-within : (log out work : List ℕ) {number : ℕ} {left : List ℕ} 
     → ReplayPromise log out work number left entries after → 8 * entries ≤ length left
 reports-within log out work {left = left} {entries = entries} promise =
     by_answer (replay_of log out work) out left entries promise.writes promise.counts
-
--- a text that was put into a block lies in it
-pub text-within : (before after text : List ℕ) {n : ℕ} → Shows before after text n → n ≤ length after
-text-within before after text s = omega (arith, ap length s.is, length-append text (drop (length text) before), s.ends)
