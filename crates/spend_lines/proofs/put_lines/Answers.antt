@@ -8,24 +8,6 @@ use Rattle.spend_lines.proofs.put_lines.Goals as goal
 pub loop-i-init : goal.loop-i-init
 loop-i-init c = (all-coming _ (line_first c.args.reports.now c.args.from c.args.count) (omega arith) (omega arith), omega arith)
 
-pub overflow_add-from : goal.overflow_add-from
-overflow_add-from c = omega (arith, c.requires.count_in_bounds, c.loop-i.invariant.1)
-
-pub number_in-number-requires : goal.number_in-number-requires
-number_in-number-requires c = omega (arith, c.requires.count_in_bounds, c.loop-i-test.true)
-
-pub overflow_add-from-in-loop-i : goal.overflow_add-from-in-loop-i
-overflow_add-from-in-loop-i c = omega (arith, c.requires.count_in_bounds, c.loop-i.invariant.1)
-
-pub verdict_in-verdict-requires : goal.verdict_in-verdict-requires
-verdict_in-verdict-requires c = omega (arith, c.requires.count_in_bounds, c.loop-i-test.true)
-
-pub overflow_add-i : goal.overflow_add-i
-overflow_add-i c = omega (arith, c.requires.count_in_bounds, c.loop-i-test.true)
-
-pub loop-i-smaller : goal.loop-i-smaller
-loop-i-smaller c = omega arith
-
 pub loop-i-preserved : goal.loop-i-preserved
 loop-i-preserved c = let next = line-next c.args.reports.now c.args.from c.args.count c.loop-i.i _ _ c.loop-i-test.true c.number_in-number.ensures c.verdict_in-verdict.ensures in
     (more-coming next c.loop-i.invariant.0 c.put_line-at.ensures, omega arith)
