@@ -29,7 +29,7 @@ fn show_and_save<R: Env + Files + Print + Eprint>(
 {
     report::show_compiled(rt, cost, never, nodes, &tree[..bytes]);
     if OUTPUT_WORD < files::word_count(rt) {
-        files::save_word(rt, OUTPUT_WORD, "the path", &tree[..bytes]);
+        files::save_word(rt, OUTPUT_WORD, b"the path", &tree[..bytes]);
     }
 }
 

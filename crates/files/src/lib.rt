@@ -62,6 +62,11 @@ pub fn say(rt: &impl Eprint, text: &str) {
     let _ = rt.eprint(text);
 }
 
+// The words that some bytes are: standard error takes text.
+fn words_of(bytes: &[u8]) -> &str {
+    str::from_utf8(bytes).unwrap_or("what is no text in UTF-8")
+}
+
 // The system's words for an error, without its number.
 fn reason<'a>(error: io::Error, room: &'a mut [u8; REASON_ROOM]) -> &'a str {
     let mut free = &mut room[..];
@@ -211,18 +216,18 @@ fn load<R: Env + Files + Input + Eprint>(
 pub fn load_word<R: Env + Files + Input + Eprint>(
     rt: &R,
     i: usize,
-    what: &str,
+    what: &[u8],
     dash: bool,
-    too_long: &str,
+    too_long: &[u8],
     room: &mut [u8],
 ) -> Loaded
     ensures { Held (length room.new) result }
 {
     let mut letters = [0u8; WORD_ROOM];
     match path_word(rt, i, &mut letters) {
-        Ok(path) => load(rt, i, path, dash, too_long, room),
+        Ok(path) => load(rt, i, path, dash, words_of(too_long), room),
         Err(e) => {
-            fail(rt, what, e);
+            fail(rt, words_of(what), e);
             Loaded::Nothing
         }
     }
@@ -246,11 +251,11 @@ fn save<R: Files + Eprint>(rt: &R, path: &str, bytes: &[u8]) {
 }
 
 // Writes bytes to the new file that word i of the command line names. `what` is what is said to have failed where that is no path.
-pub fn save_word<R: Env + Files + Eprint>(rt: &R, i: usize, what: &str, bytes: &[u8]) {
+pub fn save_word<R: Env + Files + Eprint>(rt: &R, i: usize, what: &[u8], bytes: &[u8]) {
     let mut letters = [0u8; WORD_ROOM];
     match path_word(rt, i, &mut letters) {
         Ok(path) => save(rt, path, bytes),
-        Err(e) => fail(rt, what, e),
+        Err(e) => fail(rt, words_of(what), e),
     }
 }
 

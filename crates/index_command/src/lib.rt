@@ -22,7 +22,7 @@ const WORK_WORDS: usize = 16_384;
 fn show_and_save<R: Env + Files + Print + Eprint>(rt: &R, tree: &[u8], index: &[u8]) {
     script_view::show_index(rt, tree, index);
     if OUTPUT_WORD < files::word_count(rt) {
-        files::save_word(rt, OUTPUT_WORD, "the path", index);
+        files::save_word(rt, OUTPUT_WORD, b"the path", index);
     }
 }
 
@@ -55,9 +55,9 @@ fn load_index<R: Env + Files + Input + Eprint>(rt: &R, room: &mut [u8]) -> Loade
     files::load_word(
         rt,
         INDEX_WORD,
-        "the path",
+        b"the path",
         true,
-        ": longer than 65536 bytes, 4096 entries of 16 bytes: no tree's index is\n",
+        b": longer than 65536 bytes, 4096 entries of 16 bytes: no tree's index is\n",
         room,
     )
 }

@@ -12,7 +12,7 @@ const POLICY_ROOM: usize = 2_560;
 // Shows a policy that was moved, and writes it to the new file that the words name.
 fn show_and_save<R: Env + Files + Print + Eprint>(rt: &R, policy: &[u8]) {
     report::show_moved(rt, policy.len() as u64);
-    files::save_word(rt, MOVED_OUTPUT_WORD, "the path", policy);
+    files::save_word(rt, MOVED_OUTPUT_WORD, b"the path", policy);
 }
 
 // Moves a policy to keys of 64 bits.

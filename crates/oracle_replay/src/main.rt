@@ -70,9 +70,9 @@ fn run_in<R: Env + Files + Input + Print + Eprint>(rt: &R, room: &mut [u8])
     let Loaded::Bytes(n) = files::load_word(
         rt,
         1,
-        "LIST",
+        b"LIST",
         false,
-        ": longer than 524,288 bytes\n",
+        b": longer than 524,288 bytes\n",
         room,
     ) else {
         return;

@@ -17,9 +17,9 @@ pub fn load_records<R: Env + Files + Input + Eprint>(rt: &R, i: usize, room: &mu
     files::load_word(
         rt,
         i,
-        "the path",
+        b"the path",
         true,
-        ": longer than 557056 bytes, 4096 records of 136 bytes: no tree within the limits is\n",
+        b": longer than 557056 bytes, 4096 records of 136 bytes: no tree within the limits is\n",
         room,
     )
 }
