@@ -66,9 +66,9 @@ fn run_in<R: Env + Files + Input + Print + Eprint>(rt: &R, room: &mut [u8], verb
     let Loaded::Bytes(n) = files::load_word(
         rt,
         LOG_WORD,
-        "LOG",
+        b"LOG",
         true,
-        ": longer than 4194304 bytes\n",
+        b": longer than 4194304 bytes\n",
         room,
     ) else {
         return;

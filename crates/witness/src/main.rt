@@ -28,9 +28,9 @@ fn run_in<R: Env + Files + Input + Print + Eprint>(rt: &R, terminal: bool, room:
     let Loaded::Bytes(n) = files::load_word(
         rt,
         1,
-        "LIST",
+        b"LIST",
         false,
-        ": longer than 2097152 bytes\n",
+        b": longer than 2097152 bytes\n",
         room,
     ) else {
         return;
