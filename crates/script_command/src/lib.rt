@@ -38,9 +38,9 @@ fn load_keys<R: Env + Files + Input + Eprint>(rt: &R, input: usize, room: &mut [
     files::load_word(
         rt,
         input + KEYS_AFTER,
-        "the path",
+        b"the path",
         true,
-        ": longer than 270336 bytes, 8192 keys of 33 bytes\n",
+        b": longer than 270336 bytes, 8192 keys of 33 bytes\n",
         room,
     )
 }
@@ -52,9 +52,9 @@ fn load_hashes<R: Env + Files + Input + Eprint>(rt: &R, i: usize, room: &mut [u8
     files::load_word(
         rt,
         i,
-        "the path",
+        b"the path",
         true,
-        ": longer than 131072 bytes, 4096 hashes of 32 bytes\n",
+        b": longer than 131072 bytes, 4096 hashes of 32 bytes\n",
         room,
     )
 }
@@ -89,7 +89,7 @@ fn show_and_save<R: Env + Files + Print + Eprint>(
     }
     let output = input + SCRIPT_AFTER;
     if output < files::word_count(rt) {
-        files::save_word(rt, output, "the path", script);
+        files::save_word(rt, output, b"the path", script);
     }
 }
 
