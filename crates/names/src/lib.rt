@@ -132,6 +132,7 @@ pub fn malleability_letters(m: Malleability) -> [u8; 4]
 // Moves what stands in the places that are no spaces to the front, and answers how many there are.
 pub fn close_up(text: &mut [u8]) -> usize
     ensures prefix_len { result ≤ length text.new }
+    ensures taken { result ≡ length (take result text.new) }
     ensures text_after { take result text.new ≡ without_spaces text.old }
 {
     let mut n = 0;
