@@ -3,15 +3,12 @@
 
 use command_line::{INPUT_WORD, PROPOSED_WORD};
 use counterexample::Told;
-use files::Loaded;
 use record_files::{ROOM, load_records};
+use refusals::Refusal;
 use report::say;
 use std::io;
 use std::rt::{Env, Files};
 use variables::Var;
-
-// Document 02's number of a tree that means something else than the policy.
-const OTHER_MEANING: u32 = 26;
 
 // The words of work memory that it takes.
 const WORK_WORDS: usize = 65_536;
@@ -42,16 +39,8 @@ fn say_variable(rt: &impl Print, x: Var, value: bool) -> io::Result<()> {
 // A line for each variable, with its value.
 fn say_variables(rt: &impl Print, told: Told) -> io::Result<()> {
     let vars = told.vars;
-    let example = told.example;
-    let list = vars.list;
-    let n = vars.len;
-    let mut i = 0;
-    while i < 12 {
-        if i < n {
-            let x = list[i];
-            say_variable(rt, x, counterexample::value_of(example, i))?;
-        }
-        i += 1;
+    for i in 0..vars.len.min(vars.list.len()) {
+        say_variable(rt, vars.list[i], counterexample::value_of(told.example, i))?;
     }
     Ok(())
 }
@@ -65,17 +54,9 @@ fn say_which(rt: &impl Print, holds: bool) -> io::Result<()> {
 }
 
 // The lines of an assignment under which a policy and a tree differ.
-fn say_example(rt: &impl Print, holds: bool, told: Told) -> io::Result<()> {
-    say_which(rt, holds)?;
+fn say_example(rt: &impl Print, told: Told) -> io::Result<()> {
+    say_which(rt, told.example.holds)?;
     say_variables(rt, told)
-}
-
-// Shows the assignment under which a policy and a tree differ, if one was found.
-fn show_example<R: Print + Eprint>(rt: &R, told: Told) {
-    let example = told.example;
-    if example.found {
-        report::say_unless(rt, say_example(rt, example.holds, told));
-    }
 }
 
 // The lines of a tree that is accepted.
@@ -98,22 +79,21 @@ fn accept_of<R: Print + Eprint>(rt: &R, context: u32, policy: &[u8], tree: &[u8]
         return;
     }
     report::show_refusal(rt, number);
-    if number == OTHER_MEANING {
-        show_example(
-            rt,
-            counterexample::example_of(context, policy, tree, &mut work),
-        );
+    if number == Refusal::OtherMeaning.number() {
+        if let Some(told) = counterexample::example_of(context, policy, tree, &mut work) {
+            report::say_unless(rt, say_example(rt, told));
+        }
     }
 }
 
 // Tells whether the tree that the words name stands for the policy that they name.
 pub fn accept<R: Env + Files + Input + Print + Eprint>(rt: &R, context: u32) {
     let mut policy = [0u8; ROOM];
-    let Loaded::Bytes(p) = load_records(rt, INPUT_WORD, &mut policy) else {
+    let Some(p) = load_records(rt, INPUT_WORD, &mut policy) else {
         return;
     };
     let mut tree = [0u8; ROOM];
-    let Loaded::Bytes(t) = load_records(rt, PROPOSED_WORD, &mut tree) else {
+    let Some(t) = load_records(rt, PROPOSED_WORD, &mut tree) else {
         return;
     };
     accept_of(rt, context, &policy[..p], &tree[..t]);

@@ -1,12 +1,12 @@
 -- Each part of the answer, from what the parts below it say. Assumes nothing.
+use Rattle.refusals.specs.declared.Refusal.{Refusal}
+use Rattle.refusals.specs.Numbers.{number_of}
 use Prim.Native.Nat.{ℕ, ◌<◌}
-use mathlib.Core.Bool.{Bool, true, false, cond}
+use mathlib.Core.Bool.{Bool, true, false}
 use mathlib.Core.List.{List, [], ◌++◌}
-use mathlib.Core.Option.{Option, none, some}
+use Rattle.std.specs.Prelude.{Some, Result, Ok, Err}
 use mathlib.Core.Path.{◌≡◌, refl, sym, ap, subst, ◌∙◌}
 use native.Mathlib.Omega.{arith}
-use borrow.Author.Tests.{eqb-true, eqb-false}
-use lib.Dec.{eqb}
 use lib.ListN.{length, take, drop, length-append, length-drop}
 use lib.Seq.{length-take-le}
 use Rattle.contexts.specs.declared.Context.{Context}
@@ -14,31 +14,25 @@ use Rattle.types.specs.declared.«Type».{«Type»}
 use Rattle.policies.specs.Policy.{Policy}
 use Rattle.policies.specs.Array.{policy_at, Good}
 use Rattle.policies.specs.Reading as policies
-use Rattle.policies.specs.Reading.{read_policy, bad_policy, zero_weight, policy_too_large}
+use Rattle.policies.specs.Reading.{read_policy}
+use Rattle.policies.proofs.Roots.{refusal-is}
 use Rattle.policies.specs.Answers.{policy_answer, PolicyGood, Read, PolicyRead, reads, bad-array}
-use Rattle.policies.specs.declared.ReadPolicy.{ReadPolicy}
-use Rattle.policies.specs.declared.ReadPolicy.TheVariants as ReadPolicy
-use Rattle.trees.specs.declared.Checked.{Checked}
-use Rattle.trees.specs.declared.Checked.TheVariants as Checked
-use Rattle.trees.specs.Checked.{answer_of, type_only}
+use Rattle.trees.specs.Checked.{type_only}
 use Rattle.trees.specs.Fragment.{Fragment}
-use Rattle.trees.specs.Reading.{Answer, refused, done, max_records}
+use Rattle.trees.specs.Reading.{refused, done, max_records}
 use Rattle.trees.specs.TreeCheck.{Typed, context_of, check_of}
-use Rattle.claspwillow.specs.Promises.{number_of}
-use Rattle.claspwillow.proofs.CheckLaws.{passed, refused_as}
+use Rattle.claspwillow.proofs.CheckLaws.{passed-as, refused-by}
 use Rattle.walk.specs.TreeRecords.{TreeRecords, Written}
 use Rattle.walk.proofs.Laws.{rows}
-use Rattle.words.specs.Memory.{zeroed}
 use Rattle.tree_figures.specs.LocallyValid.{all_valid}
 use Rattle.meaning.specs.Meaning.{Variable}
 use Rattle.variables.specs.declared.Vars.{Vars}
 use Rattle.variables.specs.Variables.{policy_variables, tree_variables}
 use Rattle.variables.specs.Gathering.{Gathered, Roomy, Found}
 use Rattle.variables.proofs.Rows.{not-few, found, few-found}
-use Rattle.truth.specs.Alike.{Alike, Says}
-use Rattle.accept_entry.specs.Accept.{is_b, passing, tree_passing, read_both, policy_in, Pair, Verdict, too_many, differs, accepts, Results, refuses, judges}
-use Rattle.accept_entry.specs.Accept.{not_b, not_safe, malleable, locally_invalid}
-use Rattle.accept_entry.specs.Verdicts.{type_number, type_in, TypedResults}
+use Rattle.truth.specs.Alike.{Says}
+use Rattle.accept_entry.specs.Accept.{is_b, passing, tree_passing, read_both, Verdict, too_many, differs, accepts, Results, refuses, judges}
+use Rattle.accept_entry.specs.Verdicts.{demanded, TypedResults}
 
 -- ---- the variables and the meaning
 
@@ -71,61 +65,36 @@ record Meets (t : «Type») : Type 0 where
   s : t.mall.safe ≡ true
   m : t.mall.non_malleable ≡ true
 
-module _ (t : «Type») {b : Bool} (e : b ≡ is_b t.corr.base) where
-  pub number-not-b : b ≡ false → 22 ≡ type_number t
-  number-not-b h =
-      let x : is_b t.corr.base ≡ false = sym e ∙ h in
-      rw x
-
-  module _ (h : b ≡ true) where
-    its-b : is_b t.corr.base ≡ true
-    its-b = sym e ∙ h
-
-    pub number-unsafe : t.mall.safe ≡ false → 23 ≡ type_number t
-    number-unsafe s = rw (its-b, s)
-
-    pub number-malleable : t.mall.safe ≡ true → t.mall.non_malleable ≡ false → 24 ≡ type_number t
-    number-malleable s m = rw (its-b, s, m)
-
-    pub number-none : t.mall.safe ≡ true → t.mall.non_malleable ≡ true → 0 ≡ type_number t
-    number-none s m = rw (its-b, s, m)
-
 module _ (c : Context) (p : Policy) (tree : List ℕ) (t : «Type») where
-  pub type-refused : {n : ℕ} → n ≡ type_number t → (n ≡ 0 → ⊥) → TypedResults c p tree t n
-  type-refused {n} e z f r = by_tests (is_b t.corr.base) t.mall.safe t.mall.non_malleable refl refl refl
+  pub type-refused : {r : Refusal} → Err r ≡ demanded t → TypedResults c p tree t (number_of r)
+  type-refused {r} e f rows = by_tests (is_b t.corr.base) t.mall.safe t.mall.non_malleable refl refl refl
     where
       by_tests : (a b d : Bool) → is_b t.corr.base ≡ a → t.mall.safe ≡ b → t.mall.non_malleable ≡ d
-          → Results (passing c p (record { tree = f; type = t })) n
+          → Results (passing c p (record { tree = f; type = t })) (number_of r)
       by_tests false b d x y w =
-          let is : n ≡ 22 = e ∙ rw x in
+          let is : r ≡ Refusal.NotB = cc in
           rw (x, is) (refuses 22)
       by_tests true false d x y w =
-          let is : n ≡ 23 = e ∙ rw (x, y) in
+          let is : r ≡ Refusal.NotSafe = cc in
           rw (x, y, is) (refuses 23)
       by_tests true true false x y w =
-          let is : n ≡ 24 = e ∙ rw (x, y, w) in
+          let is : r ≡ Refusal.Malleable = cc in
           rw (x, y, w, is) (refuses 24)
-      by_tests true true true x y w = absurd (z (e ∙ rw (x, y, w)))
+      by_tests true true true x y w = absurd (let z : ◌≡◌ {A = ℕ} 0 1 = cc in omega arith)
 
-  meets : {n : ℕ} → n ≡ type_number t → n ≡ 0 → Meets t
-  meets {n} e z = by_tests (is_b t.corr.base) t.mall.safe t.mall.non_malleable refl refl refl
+  meets : {u : Unit {0}} → Ok u ≡ demanded t → Meets t
+  meets {u} e = by_tests (is_b t.corr.base) t.mall.safe t.mall.non_malleable refl refl refl
     where
       by_tests : (a b d : Bool) → is_b t.corr.base ≡ a → t.mall.safe ≡ b → t.mall.non_malleable ≡ d → Meets t
       by_tests true true true x y w = record { b = x; s = y; m = w }
-      by_tests false b d x y w =
-          let is : n ≡ 22 = e ∙ rw x in
-          absurd (omega arith)
-      by_tests true false d x y w =
-          let is : n ≡ 23 = e ∙ rw (x, y) in
-          absurd (omega arith)
-      by_tests true true false x y w =
-          let is : n ≡ 24 = e ∙ rw (x, y, w) in
-          absurd (omega arith)
+      by_tests false b d x y w = absurd (let z : ◌≡◌ {A = ℕ} 0 1 = cc in omega arith)
+      by_tests true false d x y w = absurd (let z : ◌≡◌ {A = ℕ} 0 1 = cc in omega arith)
+      by_tests true true false x y w = absurd (let z : ◌≡◌ {A = ℕ} 0 1 = cc in omega arith)
 
-  module _ {n : ℕ} (e : n ≡ type_number t) (z : n ≡ 0) {b : Bool} (v : (f : Fragment) → TreeRecords tree f → b ≡ all_valid c f) where
+  module _ {u : Unit {0}} (e : Ok u ≡ demanded t) {b : Bool} (v : (f : Fragment) → TreeRecords tree f → b ≡ all_valid c f) where
     pub not_valid : b ≡ false → TypedResults c p tree t 25
     not_valid h f r =
-        let k = meets e z in
+        let k = meets e in
         let x = k.b in
         let y = k.s in
         let w = k.m in
@@ -134,7 +103,7 @@ module _ (c : Context) (p : Policy) (tree : List ℕ) (t : «Type») where
 
     pub then-judged : b ≡ true → {m : ℕ} → ((f : Fragment) → TreeRecords tree f → Verdict p f m) → TypedResults c p tree t m
     then-judged h {m} j f r =
-        let k = meets e z in
+        let k = meets e in
         let x = k.b in
         let y = k.s in
         let w = k.m in
@@ -143,45 +112,38 @@ module _ (c : Context) (p : Policy) (tree : List ℕ) (t : «Type») where
 
 -- ---- the tree check
 
-type-is : (r : Checked) {t : «Type»} → answer_of r ≡ done t → type_in r ≡ t
-type-is (Checked.Typed s) e = cc
-type-is Checked.BadContext e = absurd (let z : ◌≡◌ {A = ℕ} 0 1 = cc in omega arith)
-type-is Checked.BadWork e = absurd (let z : ◌≡◌ {A = ℕ} 0 1 = cc in omega arith)
-type-is Checked.BadTree e = absurd (let z : ◌≡◌ {A = ℕ} 0 1 = cc in omega arith)
-type-is Checked.IllTyped e = absurd (let z : ◌≡◌ {A = ℕ} 0 1 = cc in omega arith)
-type-is Checked.TreeTooLarge e = absurd (let z : ◌≡◌ {A = ℕ} 0 1 = cc in omega arith)
-type-is Checked.TreeTooTall e = absurd (let z : ◌≡◌ {A = ℕ} 0 1 = cc in omega arith)
+module _ (context : ℕ) (tree work : List ℕ) (room : length work ≡ max_records) where
+  pub tree-refused : (r : Refusal) → refused (number_of r) ≡ type_only (check_of context tree (length work)) → (p : Policy) (c : Context)
+      → Results (tree_passing c context p tree) (number_of r)
+  tree-refused r a p c =
+      let e : check_of context tree max_records ≡ refused (number_of r) = sym (ap (check_of context tree) room) ∙ refused-by context tree work a in
+      rw e (refuses (number_of r))
 
-module _ (context : ℕ) (tree work : List ℕ) (r : Checked) {n : ℕ} (room : length work ≡ max_records)
-    (a : answer_of r ≡ type_only (check_of context tree (length work))) (k : n ≡ number_of (answer_of r)) where
-  told : n ≡ number_of (type_only (check_of context tree (length work)))
-  told = k ∙ ap number_of a
+  module _ {t : «Type»} (a : done t ≡ type_only (check_of context tree (length work))) where
+    its-typed : Typed
+    its-typed = (passed-as context tree work a).typed
 
-  checked : n ≡ 0 → (x : Typed) × (check_of context tree max_records ≡ done x)
-  checked z =
-      let p = passed context tree work told z in
-      (p.typed, sym (ap (check_of context tree) room) ∙ p.passes)
+    its-check : check_of context tree max_records ≡ done its-typed
+    unfolding its-typed
+    its-check = sym (ap (check_of context tree) room) ∙ (passed-as context tree work a).passes
 
-  pub tree-written : n ≡ 0 → Written tree
-  tree-written z =
-      let p = checked z in
-      record { root = p.0.tree; rows = rows context tree max_records p.0 p.1 }
+    its-type : t ≡ its-typed.type
+    unfolding its-typed
+    its-type =
+        let is : done t ≡ done its-typed.type = a ∙ ap type_only (passed-as context tree work a).passes in
+        cc (is)
 
-  pub tree-refused : (n ≡ 0 → ⊥) → (p : Policy) (c : Context) → Results (tree_passing c context p tree) n
-  tree-refused z p c =
-      let e : check_of context tree max_records ≡ refused n = sym (ap (check_of context tree) room) ∙ refused_as context tree work told z in
-      rw e (refuses n)
+    pub tree-written : Written tree
+    tree-written = record { root = its-typed.tree; rows = rows context tree max_records its-typed its-check }
 
-  pub tree-judged : (z : n ≡ 0) {t : «Type»} → t ≡ type_in r → {c₀ : Context} → ((x : Context) → context_of context ≡ some x → c₀ ≡ x) → (p : Policy) {m : ℕ}
-      → TypedResults c₀ p tree t m → (c : Context) → context_of context ≡ some c → Results (tree_passing c context p tree) m
-  tree-judged z {t} e {c₀} is p {m} j c q =
-      let x = checked z in
-      let of-x : answer_of r ≡ done x.0.type = a ∙ ap (λ (n : ℕ). type_only (check_of context tree n)) room ∙ ap type_only x.1 in
-      let same : t ≡ x.0.type = e ∙ type-is r of-x in
-      let its = j x.0.tree (rows context tree max_records x.0 x.1) in
-      let its-type : Results (passing c₀ p x.0) m = subst (λ (s : «Type»). Results (passing c₀ p (record { tree = x.0.tree; type = s })) m) same its in
-      let its-context : Results (passing c p x.0) m = subst (λ (d : Context). Results (passing d p x.0) m) (is c q) its-type in
-      rw x.1 its-context
+    pub tree-judged : {c₀ : Context} → ((x : Context) → context_of context ≡ Some x → c₀ ≡ x) → (p : Policy) {m : ℕ}
+        → TypedResults c₀ p tree t m → (c : Context) → context_of context ≡ Some c → Results (tree_passing c context p tree) m
+    tree-judged {c₀} is p {m} j c q =
+        let its = j its-typed.tree (rows context tree max_records its-typed its-check) in
+        let of-type : Results (passing c₀ p its-typed) m =
+        subst (λ (s : «Type»). Results (passing c₀ p (record { tree = its-typed.tree; type = s })) m) its-type its in
+        let of-context : Results (passing c p its-typed) m = subst (λ (d : Context). Results (passing d p its-typed) m) (is c q) of-type in
+        rw its-check of-context
 
 -- work memory, of which the check takes a part
 
@@ -193,7 +155,7 @@ joined-long w p l k = length-append p (drop 4096 w) ∙ omega (arith, l, k, leng
 
 -- ---- the policy
 
-module _ (policy m₀ m : List ℕ) (long : length m₀ ≡ 2560) {r : ReadPolicy} (read : PolicyRead policy m₀ r m) where
+module _ (policy m₀ m : List ℕ) (long : length m₀ ≡ 2560) {r : Result ℕ Refusal} (read : PolicyRead policy m₀ r m) where
   its-read : Read (read_policy policy) r m
   its-read = of read
     where
@@ -201,39 +163,19 @@ module _ (policy m₀ m : List ℕ) (long : length m₀ ≡ 2560) {r : ReadPolic
       of (reads l x) = x
       of (bad-array n e) = absurd (n long)
 
-  refused-with : (n : ℕ) → policy_answer r m ≡ some (policies.refused n) → read_policy policy ≡ policies.refused n
-  refused-with n e =
-      let says = its-read.says in
-      cc (says, e)
-
   module _ (c : Context) (context : ℕ) (tree : List ℕ) where
-    policy-refused : (n : ℕ) → policy_answer r m ≡ some (policies.refused n) → Results (read_both c context policy tree) n
-    policy-refused n e =
-        let is = refused-with n e in
-        rw is (refuses n)
+    pub policy-refused : {e : Refusal} → r ≡ Err e → Results (read_both c context policy tree) (number_of e)
+    policy-refused {e} x =
+        let is = refusal-is (subst (λ (k : Result ℕ Refusal). Read (read_policy policy) k m) x its-read) in
+        rw is (refuses (number_of e))
 
-    pub bad-policy : r ≡ ReadPolicy.BadPolicy → Results (read_both c context policy tree) 3
-    bad-policy e = policy-refused 3 (rw e)
-
-    pub zero-weight : r ≡ ReadPolicy.ZeroWeight → Results (read_both c context policy tree) 4
-    zero-weight e = policy-refused 4 (rw e)
-
-    pub too_large : r ≡ ReadPolicy.PolicyTooLarge → Results (read_both c context policy tree) 5
-    too_large e = policy-refused 5 (rw e)
-
-    pub no-bad-array : r ≡ ReadPolicy.BadArray → Results (read_both c context policy tree) 3
-    no-bad-array e =
-        let says = its-read.says in
-        let none_is : policy_answer r m ≡ none = rw e in
-        absurd (let z : ◌≡◌ {A = ℕ} 0 1 = cc (says, none_is) in omega arith)
-
-    pub policy-read : {root : ℕ} → r ≡ ReadPolicy.Root root → {n : ℕ} → Results (tree_passing c context (policy_at m root) tree) n
+    pub policy-read : {root : ℕ} → r ≡ Ok root → {n : ℕ} → Results (tree_passing c context (policy_at m root) tree) n
         → Results (read_both c context policy tree) n
     policy-read {root} e {n} j =
         let says = its-read.says in
-        let some_is : policy_answer r m ≡ some (policies.done (policy_at m root)) = rw e in
+        let some_is : policy_answer r m ≡ Some (policies.done (policy_at m root)) = rw e in
         let is : read_policy policy ≡ policies.done (policy_at m root) = cc (says, some_is) in
         rw is j
 
-  pub policy-good : {root : ℕ} → r ≡ ReadPolicy.Root root → Good m × (root < 64)
-  policy-good {root} e = subst (λ (x : ReadPolicy). PolicyGood x m) e its-read.good
+  pub policy-good : {root : ℕ} → r ≡ Ok root → Good m × (root < 64)
+  policy-good {root} e = subst (λ (x : Result ℕ Refusal). PolicyGood x m) e its-read.good

@@ -1,8 +1,7 @@
 -- What the entry gives: document 02, R-14. A context or work memory that is none of its own, the policy as compile refuses it, then the tree as
 -- the check does; then the first of these that fails: base B (22), safe (23), not malleable (24), every fragment locally valid (25), at most
 -- twelve variables in both together (21), the policy's meaning (26). 0 exactly if none fails.
-use Rattle.std.specs.Prelude.{ℕ, Bool, true, false, cond, List, ◌≡◌, eqb, length}
-use Rattle.std.proofs.Math.Option.{Option, none, some}
+use Rattle.std.specs.Prelude.{ℕ, Bool, true, false, cond, List, ◌≡◌, eqb, length, Option, None, Some}
 use Rattle.words.specs.Memory.{zeroed}
 use Rattle.contexts.specs.declared.Context.{Context}
 use Rattle.correctness.specs.declared.Base.{Base}
@@ -44,7 +43,7 @@ abbrev pub work_words : ℕ
 work_words = 65536
 
 abbrev pub work_of : ℕ → Option ℕ
-work_of words = cond (eqb words work_words) (some words) none
+work_of words = cond (eqb words work_words) (Some words) None
 
 abbrev pub policy_in : policies.Answer Policy → Answer Policy
 policy_in (policies.refused n) = refused n

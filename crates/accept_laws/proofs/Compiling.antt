@@ -2,7 +2,7 @@
 use Prim.Native.Nat.{ℕ}
 use mathlib.Core.Bool.{Bool, true, false}
 use mathlib.Core.List.{List}
-use mathlib.Core.Option.{some}
+use Rattle.std.specs.Prelude.{Some}
 use mathlib.Core.Path.{◌≡◌, refl, sym, ap, subst, ◌∙◌}
 use borrow.Author.Tests.{eq-eqb}
 use lib.ListN.{length}
@@ -46,7 +46,7 @@ abbrev judged : Bool → Policy → Fragment → Answer Pair
 judged true p f = done (record { policy = p; tree = f })
 judged false p f = refused locally_invalid
 
-module _ (context : ℕ) (c : Context) (policy tree work : List ℕ) (k : context_of context ≡ some c) (room : length work ≡ work_words) where
+module _ (context : ℕ) (c : Context) (policy tree work : List ℕ) (k : context_of context ≡ Some c) (room : length work ≡ work_words) where
   pair_is : (p : Policy) → read_policy policy ≡ policies.done p → (x : Passes context tree) → (v : Bool) → all_valid c x.found.tree ≡ v
       → pair_in context policy tree work ≡ judged v p x.found.tree
   unfolding pair_in

@@ -1,7 +1,6 @@
 -- What compile writes is accepted for its policy wherever both have at most twelve variables and, in context 0, the tree holds no False: the number
 -- that the entry gives of what compile writes is 25 for a False that is not allowed, else 21 for too many variables, else 0.
-use Rattle.std.specs.Prelude.{ℕ, Bool, true, false, List, ◌≡◌, length}
-use Rattle.std.proofs.Math.Option.{some}
+use Rattle.std.specs.Prelude.{ℕ, Bool, true, false, List, ◌≡◌, length, Some}
 use Rattle.contexts.specs.declared.Context.{Context}
 use Rattle.costs.specs.declared.Price.{Price}
 use Rattle.policies.specs.Policy.{Policy}
@@ -34,5 +33,5 @@ pub record Accepted (c : Context) (context : ℕ) (policy tree : List ℕ) : Typ
 
 abbrev pub CompiledAccepted : Type 0
 CompiledAccepted =
-    (context : ℕ) (c : Context) (work_fits : Bool) (policy : List ℕ) (room : ℕ) (bytes : List ℕ) (cost : Price) (nodes : ℕ) → context_of context ≡ some c
+    (context : ℕ) (c : Context) (work_fits : Bool) (policy : List ℕ) (room : ℕ) (bytes : List ℕ) (cost : Price) (nodes : ℕ) → context_of context ≡ Some c
     → AllBelow 256 policy → compile context work_fits policy room ≡ compiled bytes cost nodes → Accepted c context policy bytes

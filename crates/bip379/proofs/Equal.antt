@@ -1,6 +1,6 @@
 -- Two rows of letters are the same: a test that computes, and what it shows. Assumes nothing.
 use mathlib.Core.Bool.{Bool, true, false, not, ◌&&◌}
-use mathlib.Core.Option.{Option, none, some}
+use Rattle.std.specs.Prelude.{Option, None, Some}
 use mathlib.Core.Path.{◌≡◌, refl, subst}
 use lib.Dec.{T}
 use lib.Ieee.Fits.{and_i, and_l, and_r}
@@ -76,19 +76,19 @@ malleable-equal X Y h =
     λ i. record { m = m i; s = s i; f = f i; e = e i }
 
 abbrev pub eq_letters : Option Letters → Option Letters → Bool
-eq_letters (some X) (some Y) = eq_correct X.corr Y.corr && eq_malleable X.mall Y.mall
-eq_letters (some X) none = false
-eq_letters none (some Y) = false
-eq_letters none none = true
+eq_letters (Some X) (Some Y) = eq_correct X.corr Y.corr && eq_malleable X.mall Y.mall
+eq_letters (Some X) None = false
+eq_letters None (Some Y) = false
+eq_letters None None = true
 
 pub letters-equal : (a b : Option Letters) → T (eq_letters a b) → a ≡ b
-letters-equal (some X) (some Y) h =
+letters-equal (Some X) (Some Y) h =
     let c = correct-equal X.corr Y.corr (and_l (eq_correct X.corr Y.corr) _ h) in
     let m = malleable-equal X.mall Y.mall (and_r (eq_correct X.corr Y.corr) _ h) in
-    λ i. some (record { corr = c i; mall = m i })
-letters-equal (some X) none h = absurd h
-letters-equal none (some Y) h = absurd h
-letters-equal none none h = refl
+    λ i. Some (record { corr = c i; mall = m i })
+letters-equal (Some X) None h = absurd h
+letters-equal None (Some Y) h = absurd h
+letters-equal None None h = refl
 
 bool-refl : (a : Bool) → T (eq_bool a a)
 bool-refl true = tt
@@ -115,8 +115,8 @@ malleable-refl X =
     (and_i (eq_bool X.f X.f) (eq_bool X.e X.e) (bool-refl X.f) (bool-refl X.e)))
 
 letters-refl : (a : Option Letters) → T (eq_letters a a)
-letters-refl (some X) = and_i (eq_correct X.corr X.corr) _ (correct-refl X.corr) (malleable-refl X.mall)
-letters-refl none = tt
+letters-refl (Some X) = and_i (eq_correct X.corr X.corr) _ (correct-refl X.corr) (malleable-refl X.mall)
+letters-refl None = tt
 
 pub equal-letters : (a b : Option Letters) → a ≡ b → T (eq_letters a b)
 equal-letters a b p = subst (λ (x : Option Letters). T (eq_letters a x)) p (letters-refl a)

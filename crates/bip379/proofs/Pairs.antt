@@ -1,12 +1,12 @@
 -- The fragments of two children agree: both tables computed over every pair of children. Assumes nothing.
 use mathlib.Core.Bool.{Bool}
-use mathlib.Core.Option.{Option}
+use Rattle.std.specs.Prelude.{Option, Result}
 use mathlib.Core.Path.{◌≡◌}
 use lib.Dec.{T}
 use Rattle.correctness.specs.CorrectnessRules as corr
 use Rattle.malleability.specs.MalleabilityRules as mall
 use Rattle.types.specs.TypeRules.{typed}
-use Rattle.bip379.specs.Rust.{Correctness, CorrectnessResult, Malleability, «Type»}
+use Rattle.bip379.specs.Rust.{Correctness, TypeError, Malleability, «Type»}
 use Rattle.bip379.specs.Correctness.{Correct}
 use Rattle.bip379.specs.Correctness as C
 use Rattle.bip379.specs.Malleability.{Malleable}
@@ -24,7 +24,7 @@ table_c or_c = C.or_c
 table_c or_d = C.or_d
 table_c or_i = C.or_i
 
-abbrev rule_c : Pair → Correctness → Correctness → CorrectnessResult
+abbrev rule_c : Pair → Correctness → Correctness → Result Correctness TypeError
 rule_c and_v = corr.and_v
 rule_c and_b = corr.and_b
 rule_c or_b = corr.or_b

@@ -1,9 +1,9 @@
 -- The smallest fragments at which the difference of specs/Agreement.antt that can arise is met: thresh(1,j:multi(1,A)) in P2WSH, and
 -- thresh(1,l:0) in Tapscript, which has no multi. Before them d:v:1, whose u is Tapscript's alone, as the BIP has it. Assumes nothing.
-use Rattle.std.specs.Prelude.{Bool, true, false, [], ◌∷◌, ◌≡◌, refl}
+use Rattle.std.specs.Prelude.{Bool, true, false, [], ◌∷◌, ◌≡◌, refl, Ok}
 use Rattle.correctness.specs.CorrectnessRules.{correctness}
 use Rattle.malleability.specs.MalleabilityRules.{malleability}
-use Rattle.bip379.specs.Rust.{B, «V», Zero, One, OneNonZero, AnyNonZero, None, Unique, Unknown, «Type», Ok}
+use Rattle.bip379.specs.Rust.{B, «V», Zero, One, OneNonZero, AnyNonZero, None, Unique, Unknown, «Type»}
 use Rattle.bip379.specs.Correctness.{p2wsh, tapscript}
 use Rattle.bip379.specs.Bip379.{just-0, just-1, multi, d:, v:, j:, l:, thresh, wrap}
 use Rattle.bip379.specs.Agreement.{letters, leaf_rule, port, difference, e-of-thresh}

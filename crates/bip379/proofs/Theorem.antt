@@ -1,7 +1,7 @@
 -- The theorem of specs/Agreement.antt, from the fragments by their number of children. Assumes nothing.
 use mathlib.Core.Bool.{Bool, true, false, not, ◌&&◌, false≢true}
 use mathlib.Core.List.{map}
-use mathlib.Core.Option.{Option, none, some}
+use Rattle.std.specs.Prelude.{Option, None, Some}
 use mathlib.Core.Path.{◌≡◌, refl, sym, ap, ◌∙◌}
 use lib.Dec.{leb}
 use lib.ListN.{length}
@@ -18,7 +18,7 @@ use Rattle.bip379.proofs.Andor.{andor-agrees}
 use Rattle.bip379.proofs.Wrappers.{wrappers-agree}
 use Rattle.bip379.proofs.Thresh.{thresh-agrees}
 
-leaves-agree : (F : Leaf) → some (leaf_type F) ≡ some (letters (leaf_rule F))
+leaves-agree : (F : Leaf) → Some (leaf_type F) ≡ Some (letters (leaf_rule F))
 leaves-agree just-0 = refl
 leaves-agree just-1 = refl
 leaves-agree pk_k = refl
@@ -33,8 +33,8 @@ leaves-agree multi = refl
 leaves-agree multi_a = refl
 
 amended-same : (a : Option Letters) → a ≡ amended same a
-amended-same (some X) = refl
-amended-same none = refl
+amended-same (Some X) = refl
+amended-same None = refl
 
 no_difference : (bip ours : Option Letters) → bip ≡ ours → AgreeButFor same bip ours
 no_difference bip ours e = record { agree = e ∙ amended-same ours; differ = λ k. absurd (k refl) }

@@ -1,7 +1,7 @@
 -- The fragment of any number of children agrees, but for the difference named of its e: by induction on the children. Assumes nothing.
 use mathlib.Core.Bool.{Bool, true, false, cond, not, ◌&&◌, ◌||◌, and-false, true≢false}
 use mathlib.Core.List.{List, [], ◌∷◌, map}
-use mathlib.Core.Option.{Option, none, some}
+use Rattle.std.specs.Prelude.{Option, None, Some, Result}
 use mathlib.Core.Path.{◌≡◌, refl, sym, ap, ◌∙◌}
 use Prim.Native.Nat.{ℕ, zero, suc, ◌+◌, ◌-◌, ◌≤◌, ◌<◌}
 use native.Mathlib.Omega.{arith}
@@ -19,7 +19,7 @@ use Rattle.correctness.specs.CorrectnessRules as corr
 use Rattle.malleability.specs.MalleabilityRules as mall
 use Rattle.types.specs.TypeRules.{typed, typed_if, k_of_n, threshold}
 use Rattle.bip379.specs.Rust.{Base, B, K, «V», W, Input, Zero, One, Any, OneNonZero, AnyNonZero, Unique, Unknown}
-use Rattle.bip379.specs.Rust.{Correctness, Malleability, «Type», TypeResult}
+use Rattle.bip379.specs.Rust.{Correctness, Malleability, «Type», TypeError}
 use Rattle.bip379.specs.Correctness.{Context, Correct, each_wdu, first_bdu, all_z, all_z_but_one_o, requires}
 use Rattle.bip379.specs.Correctness as C
 use Rattle.bip379.specs.Malleability.{Malleable, all_m, all_e, all_s, one_more_if, not_s}
@@ -216,8 +216,8 @@ reorder false l false = refl
 -- the difference: e where all are s (S), against e where all are e (E) and s; r is what the children are required to be
 
 granted : Option Letters → Bool
-granted (some X) = X.mall.e
-granted none = false
+granted (Some X) = X.mall.e
+granted None = false
 
 by-r-S-E : (r S E : Bool) (x : Correctness) (m s : Bool)
     → AgreeButFor (only_if (r && S && not E) e-of-thresh) (rows (requires r (correct x)) (record { m = m; s = s; f = false; e = S }))
@@ -256,7 +256,7 @@ in-range ctx k x xs l h =
     (in_letters (typed (corr.threshold (our_cs ys)) (mall.threshold k (our_ms ys)))))
     (by-r-S-E (r 1) (S 1) (E 1) (ours ys) (m 1) (s 1))
 
-typed-if : (b : Bool) (r : TypeResult) → T b → r ≡ typed_if b r
+typed-if : (b : Bool) (r : Result «Type» TypeError) → T b → r ≡ typed_if b r
 typed-if true r h = refl
 typed-if false r h = absurd h
 

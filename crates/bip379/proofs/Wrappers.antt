@@ -1,6 +1,6 @@
 -- The wrappers agree, but for the difference named of c:X: both tables computed over every sane type. Assumes nothing.
 use mathlib.Core.Bool.{Bool, true, false, ◌&&◌}
-use mathlib.Core.Option.{Option}
+use Rattle.std.specs.Prelude.{Option}
 use mathlib.Core.Path.{◌≡◌, refl}
 use lib.Dec.{T}
 use lib.Ieee.Fits.{and_l, and_r}

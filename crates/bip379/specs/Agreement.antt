@@ -1,9 +1,8 @@
 -- The port's rules (the Rust's types/correctness.rs and types/malleability.rs with u for d:X in Tapscript, as the definitions of the `types`
 -- crate give them) against the tables of BIP 379: both accept the same children and give the same letters in both contexts, except at the
 -- differences that this file names.
-use Rattle.std.specs.Prelude.{ℕ, Bool, true, false, not, ◌&&◌, List, map, ◌≡◌, T, length}
-use Rattle.std.proofs.Math.Option.{Option, none, some}
-use Rattle.bip379.specs.Rust.{Base, Correctness, Malleability, «Type», TypeResult, Ok, IllTyped}
+use Rattle.std.specs.Prelude.{ℕ, Bool, true, false, not, ◌&&◌, List, map, ◌≡◌, T, length, Option, None, Some, Result, Ok, Err}
+use Rattle.bip379.specs.Rust.{Base, Correctness, Malleability, «Type», TypeError}
 use Rattle.bip379.specs.Rust as R
 use Rattle.correctness.specs.Letters.{is_zero, is_one, is_non_zero}
 use Rattle.malleability.specs.Letters.{is_none, is_unique}
@@ -44,9 +43,9 @@ malleable x = record { m = x.non_malleable; s = x.safe; f = is_none x.dissat; e 
 abbrev pub letters : «Type» → Letters
 letters x = record { corr = correct x.corr; mall = malleable x.mall }
 
-abbrev pub in_letters : TypeResult → Option Letters
-in_letters (Ok x) = some (letters x)
-in_letters IllTyped = none
+abbrev pub in_letters : Result «Type» TypeError → Option Letters
+in_letters (Ok x) = Some (letters x)
+in_letters (Err e) = None
 
 -- The port's rule for each fragment. The context decides u of d:X and nothing else.
 
@@ -68,7 +67,7 @@ leaf_rule hash160 = Rule.hash
 leaf_rule multi = Rule.multi
 leaf_rule multi_a = Rule.multi_a
 
-abbrev pub pair_rule : Pair → «Type» → «Type» → TypeResult
+abbrev pub pair_rule : Pair → «Type» → «Type» → Result «Type» TypeError
 pair_rule and_v x y = Rule.and_v x y
 pair_rule and_b x y = Rule.and_b x y
 pair_rule or_b x y = Rule.or_b x y
@@ -76,7 +75,7 @@ pair_rule or_c x y = Rule.or_c x y
 pair_rule or_d x y = Rule.or_d x y
 pair_rule or_i x y = Rule.or_i x y
 
-abbrev pub wrapper_rule : Context → Wrapper → «Type» → TypeResult
+abbrev pub wrapper_rule : Context → Wrapper → «Type» → Result «Type» TypeError
 wrapper_rule ctx a: x = Rule.cast_alt x
 wrapper_rule ctx s: x = Rule.cast_swap x
 wrapper_rule ctx c: x = Rule.cast_check x
@@ -88,7 +87,7 @@ wrapper_rule ctx t: x = Rule.cast_true x
 wrapper_rule ctx l: x = Rule.cast_likely x
 wrapper_rule ctx u: x = Rule.cast_unlikely x
 
-abbrev pub port : Context → Fragment «Type» → TypeResult
+abbrev pub port : Context → Fragment «Type» → Result «Type» TypeError
 port ctx (leaf F) = Ok (leaf_rule F)
 port ctx (andor x y z) = Rule.and_or x y z
 port ctx (pair F x y) = pair_rule F x y
@@ -144,8 +143,8 @@ amend e-of-thresh X = record { corr = X.corr; mall = with_e true X.mall }
 amend z-of-c X = record { corr = with_z false X.corr; mall = X.mall }
 
 abbrev pub amended : Difference → Option Letters → Option Letters
-amended D (some X) = some (amend D X)
-amended D none = none
+amended D (Some X) = Some (amend D X)
+amended D None = None
 
 -- The theorem, over children that pass the Rust's own sanity checks, and 1 ≤ k ≤ n ≤ 16 for a thresh.
 

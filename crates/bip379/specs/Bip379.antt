@@ -1,7 +1,6 @@
 -- The fragments of BIP 379, the letters that make a type there, and the type that its two tables together give each fragment.
 -- Assumes nothing.
-use Rattle.std.specs.Prelude.{ℕ, List, map}
-use Rattle.std.proofs.Math.Option.{Option, none, some}
+use Rattle.std.specs.Prelude.{ℕ, List, map, Option, None, Some}
 use Rattle.bip379.specs.Correctness as C
 use Rattle.bip379.specs.Malleability as M
 
@@ -36,8 +35,8 @@ pub record Letters : Type 0 where
 
 -- a row of each table
 abbrev pub rows : Option C.Correct → M.Malleable → Option Letters
-rows (some c) m = some (record { corr = c; mall = m })
-rows none m = none
+rows (Some c) m = Some (record { corr = c; mall = m })
+rows None m = None
 
 abbrev pub leaf_type : Leaf → Letters
 leaf_type just-0 = record { corr = C.just-0; mall = M.just-0 }
@@ -76,7 +75,7 @@ wrapper_type ctx u: X = pair_type or_i X (leaf_type just-0)
 
 -- none where BIP 379 refuses the children
 abbrev pub type_of : C.Context → Fragment Letters → Option Letters
-type_of ctx (leaf F) = some (leaf_type F)
+type_of ctx (leaf F) = Some (leaf_type F)
 type_of ctx (andor X Y Z) = rows (C.andor X.corr Y.corr Z.corr) (M.andor X.mall Y.mall Z.mall)
 type_of ctx (pair F X Y) = pair_type F X Y
 type_of ctx (thresh k Xs) = rows (C.thresh (map (λ X. X.corr) Xs)) (M.thresh k (map (λ X. X.mall) Xs))

@@ -1,7 +1,6 @@
 -- The correctness table of BIP 379, row by row in its order: what a fragment requires of its children, its type and its properties.
 -- A letter that a row does not grant is false. `X.z` reads "X has z". Assumes nothing.
-use Rattle.std.specs.Prelude.{Bool, true, false, ◌&&◌, ◌||◌, List, [], ◌∷◌}
-use Rattle.std.proofs.Math.Option.{Option, none, some}
+use Rattle.std.specs.Prelude.{Bool, true, false, ◌&&◌, ◌||◌, List, [], ◌∷◌, Option, None, Some}
 
 pub data Base : Type 0 where
   B «V» K W : Base
@@ -46,8 +45,8 @@ both_bkv X Y = is_b X && is_b Y || is_k X && is_k Y || is_v X && is_v Y
 
 -- the type, where the requirement holds
 abbrev pub requires : Bool → Correct → Option Correct
-requires true t = some t
-requires false t = none
+requires true t = Some t
+requires false t = None
 
 abbrev pub just-0 : Correct
 just-0 = record { base = B; z = true; o = false; n = false; d = true; u = true }

@@ -4,10 +4,8 @@ pub use Rattle.correctness.specs.declared.Base.TheVariants.{B, K, «V», W}
 pub use Rattle.correctness.specs.declared.Input.{Input}
 pub use Rattle.correctness.specs.declared.Input.TheVariants.{Zero, One, Any, OneNonZero, AnyNonZero}
 pub use Rattle.correctness.specs.declared.Correctness.{Correctness}
-pub use Rattle.correctness.specs.declared.CorrectnessResult.{CorrectnessResult}
+pub use Rattle.correctness.specs.declared.TypeError.{TypeError}
 pub use Rattle.malleability.specs.declared.Dissat.{Dissat}
 pub use Rattle.malleability.specs.declared.Dissat.TheVariants.{None, Unique, Unknown}
 pub use Rattle.malleability.specs.declared.Malleability.{Malleability}
 pub use Rattle.types.specs.declared.«Type».{«Type»}
-pub use Rattle.types.specs.declared.TypeResult.{TypeResult}
-pub use Rattle.types.specs.declared.TypeResult.TheVariants.{Ok, IllTyped}

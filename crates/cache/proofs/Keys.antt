@@ -1,4 +1,5 @@
 -- The first word of a key: what it begins with tells the policy and whether there is a dissatisfaction probability. Assumes nothing.
+use Rattle.std.specs.Prelude.{Option, None, Some}
 use mathlib.Core.Bool.{Bool, true, false, ◌&&◌}
 use mathlib.Core.Path.{◌≡◌, refl, sym, ap}
 use Prim.Native.Nat.{ℕ, ◌+◌, ◌*◌, ◌/◌, ◌%◌, ◌<◌, ◌≤◌}
@@ -10,23 +11,21 @@ use lib.Ieee.{Float, binary64, fits, eq}
 use Rattle.words.specs.Floats.{word_of_float, float_of_word}
 use Rattle.words.proofs.Floats.{float-again}
 use Rattle.words.proofs.Packing.{digit, rest}
-use Rattle.costs.specs.declared.DissatProb.{DissatProb}
-use Rattle.costs.specs.declared.DissatProb.TheVariants as Prob
 use Rattle.costs.specs.Probabilities.{same_prob}
 use Rattle.cache.specs.Slots.{number_in, flag_in, length_in, dissat_in}
 use Rattle.cache.specs.Words.{flag_of, key_start, Holds, same_word}
 
-pub flag_small : (dissat : DissatProb) → flag_of dissat ≤ 1
-flag_small (Prob.Some p) = omega arith
-flag_small Prob.None = omega arith
+pub flag_small : (dissat : Option Float) → flag_of dissat ≤ 1
+flag_small (Some p) = omega arith
+flag_small None = omega arith
 
 -- ---- a key that was written
 
 -- the word of a dissatisfaction probability gives it back
-pub holds-some : (dissat : DissatProb) (p : Float) (w : ℕ) → dissat ≡ Prob.Some p → T (fits binary64 p) → w ≡ word_of_float p → Holds dissat w
-holds-some dissat p w e f is = rw e (record { is = is; again = ap Prob.Some (float-again p f) })
+pub holds-some : (dissat : Option Float) (p : Float) (w : ℕ) → dissat ≡ Some p → T (fits binary64 p) → w ≡ word_of_float p → Holds dissat w
+holds-some dissat p w e f is = rw e (record { is = is; again = ap Some (float-again p f) })
 
-module _ (number : ℕ) (dissat : DissatProb) (len : ℕ) (h : number < 0x1_0000) where
+module _ (number : ℕ) (dissat : Option Float) (len : ℕ) (h : number < 0x1_0000) where
   pub number-again : number_in (key_start number dissat + len * 0x2_0000) ≡ number
   number-again = omega (arith, flag_small dissat)
 
@@ -51,24 +50,24 @@ split key number f h l e =
     (rw is (sym (digit 0x1_0000 number (f + q * 2) h)), rw (is, rest 0x1_0000 number (f + q * 2) h) (digit 2 f q (omega arith)))
 
 module _ (number : ℕ) (sat : Float) (key w₁ w₂ : ℕ) (h : number < 0x1_0000) where
-  pub starts-same : (dissat : DissatProb) → key % 0x2_0000 ≡ key_start number dissat
+  pub starts-same : (dissat : Option Float) → key % 0x2_0000 ≡ key_start number dissat
       → eq sat (float_of_word w₁) && same_word dissat w₂
       ≡ eqb number (number_in key) && (eq sat (float_of_word w₁) && same_prob dissat (dissat_in (flag_in key) w₂))
-  starts-same (Prob.Some p) e =
+  starts-same (Some p) e =
       let parts = split key number 1 h (omega arith) e in
       rw (eq-eqb number (number_in key) parts.0, eq-eqb (flag_in key) 1 parts.1)
-  starts-same Prob.None e =
+  starts-same None e =
       let parts = split key number 0 h (omega arith) e in
       let f : flag_in key ≡ 0 = parts.1 in
       rw (eq-eqb number (number_in key) parts.0, ne_eqb (flag_in key) 1 (λ (e : flag_in key ≡ 1). omega arith))
 
-  pub starts-differ : (dissat : DissatProb) → (key % 0x2_0000 ≡ key_start number dissat → ⊥)
+  pub starts-differ : (dissat : Option Float) → (key % 0x2_0000 ≡ key_start number dissat → ⊥)
       → false ≡ eqb number (number_in key) && (eq sat (float_of_word w₁) && same_prob dissat (dissat_in (flag_in key) w₂))
   starts-differ dissat ne = by_number (eqb number (number_in key)) refl
     where
-      other : (dissat : DissatProb) → (key / 0x1_0000 % 2 ≡ flag_of dissat → ⊥) → same_prob dissat (dissat_in (flag_in key) w₂) ≡ false
-      other (Prob.Some p) ne = rw (ne_eqb (key / 0x1_0000 % 2) 1 ne)
-      other Prob.None ne =
+      other : (dissat : Option Float) → (key / 0x1_0000 % 2 ≡ flag_of dissat → ⊥) → same_prob dissat (dissat_in (flag_in key) w₂) ≡ false
+      other (Some p) ne = rw (ne_eqb (key / 0x1_0000 % 2) 1 ne)
+      other None ne =
           let f : key / 0x1_0000 % 2 ≡ 1 = omega (arith, ne) in
           rw (eq-eqb (key / 0x1_0000 % 2) 1 f)
 

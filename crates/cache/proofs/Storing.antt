@@ -1,6 +1,7 @@
 -- A table written: the tables of work memory are those of before and the new one. Assumes nothing.
+use Rattle.std.specs.Prelude.{Option, Some}
 use mathlib.Core.List.{List, ◌++◌, append_assoc}
-use mathlib.Core.Path.{◌≡◌, refl, sym, ◌∙◌, ap}
+use mathlib.Core.Path.{◌≡◌, refl, sym, ◌∙◌}
 use Prim.Native.Nat.{ℕ, suc, ◌+◌, ◌*◌, ◌/◌, ◌%◌, ◌<◌, ◌≤◌}
 use native.Mathlib.Numerals.{add-one}
 use native.Mathlib.Omega.{arith}
@@ -9,20 +10,13 @@ use lib.ListN.{length, get_or, set, take, drop, length-set, length-drop}
 use lib.Seq.{sets, sets-eq, drop-drop, length-take-le, length-sets, get_or-set_same, get_or-set_other}
 use Rattle.words.proofs.Stores.{sets_below, sets-above, sets-in}
 use Rattle.words.specs.Floats.{word_of_float, float_of_word}
-use Rattle.costs.specs.declared.DissatProb.{DissatProb}
 use Rattle.memory.specs.Layout.{work_words, keys_from, entries_from, max_tables, word_at, table_count}
-use Rattle.cache.specs.Slots.{Slot, slot, dissat_in, entry_in, entry_at, slot_at, slots_up_to, Kept}
+use Rattle.cache.specs.Slots.{slot, dissat_in, entry_in, entry_at, slot_at, slots_up_to, Kept}
 use Rattle.cache.specs.Words.{flag_of, dissat_word, key_start, key_words, KeyPut, RowPut}
 use Rattle.cache.specs.Answers.{OneMore, Stores}
 use Rattle.cache.specs.Answers as answers
-use Rattle.cache.specs.declared.Stored.{Stored}
-use Rattle.cache.specs.declared.Stored.TheVariants.{At}
 use Rattle.cache.proofs.Keys.{number-again, flag-again, length-again}
 use Rattle.cache.proofs.Tables.{up-to-are, first-same}
-
-pub same-long : {m₀ m : List ℕ} {t : Slot} {r : Stored} → Stores m₀ m t r → length m ≡ length m₀
-same-long (answers.full count is) = ap length is
-same-long (answers.at is few more) = more.nodes.long
 
 -- a part that was lent and came back is a run of stores
 pub lent_back : (m row : List ℕ) (a k : ℕ) → length row ≡ k → a + k ≤ length m → take a m ++ (row ++ drop k (drop a m)) ≡ sets m a row
@@ -77,7 +71,7 @@ module _ (m₀ row keys : List ℕ) (s : ℕ) (long : length m₀ ≡ work_words
 
 -- ---- the table that was written
 
-module _ (m : List ℕ) (s number : ℕ) (sat : Float) (dissat : DissatProb) (es : List ℕ) (len : ℕ) where
+module _ (m : List ℕ) (s number : ℕ) (sat : Float) (dissat : Option Float) (es : List ℕ) (len : ℕ) where
   new-slot : number < 0x1_0000 → len ≤ 128 → length es ≡ 128
       → float_of_word (word_of_float sat) ≡ sat → dissat_in (flag_of dissat) (dissat_word dissat) ≡ dissat
       → ((k : ℕ) → k < 3 → word_at m (keys_from + 3 * s + k) ≡ get_or (key_words number sat dissat len) k 0)
@@ -98,7 +92,7 @@ module _ (m : List ℕ) (s number : ℕ) (sat : Float) (dissat : DissatProb) (es
         up-to-are m es s len (omega arith) entries,
       )
 
-module _ (m₀ row es : List ℕ) (number : ℕ) (sat : Float) (dissat : DissatProb) (len : ℕ) where
+module _ (m₀ row es : List ℕ) (number : ℕ) (sat : Float) (dissat : Option Float) (len : ℕ) where
   one_more : length m₀ ≡ work_words → table_count m₀ < max_tables → length row ≡ 32 → number < 0x1_0000 → len ≤ 128 → length es ≡ 128
       → float_of_word (word_of_float sat) ≡ sat → dissat_in (flag_of dissat) (dissat_word dissat) ≡ dissat
       → ((j : ℕ) → j < len → entry_in (get_or row (j / 4) 0) (j % 4) ≡ get_or es j 0)
@@ -129,7 +123,7 @@ module _ (m₀ row es : List ℕ) (number : ℕ) (sat : Float) (dissat : DissatP
       → RowPut (take k (drop (entries_from + 32 * table_count m₀) m₀)) row es len
       → KeyPut (take (entries_from + 32 * table_count m₀) m₀ ++ (row ++ drop k (drop (entries_from + 32 * table_count m₀) m₀))) m
       (table_count m₀) number sat dissat len
-      → Stores m₀ (set m 1 (table_count m₀ + 1)) (slot number sat dissat (take len es)) (At (table_count m₀))
+      → Stores m₀ (set m 1 (table_count m₀ + 1)) (slot number sat dissat (take len es)) (Some (table_count m₀))
   stored k m kept few fits all is row_put key_put =
       let long = kept.long in
       let a = entries_from + 32 * table_count m₀ in

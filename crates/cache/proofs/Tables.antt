@@ -2,7 +2,7 @@
 -- `entry_of`, `found_at` and `found_none`. Assumes nothing.
 use mathlib.Core.Bool.{Bool, true, false, cond}
 use mathlib.Core.List.{List, [], ◌∷◌, ◌++◌}
-use mathlib.Core.Option.{none, some}
+use Rattle.std.specs.Prelude.{None, Some, Option}
 use mathlib.Core.Path.{◌≡◌, refl, sym, ◌∙◌, ap}
 use Prim.Native.Nat.{ℕ, zero, suc, ◌+◌, ◌*◌, ◌/◌, ◌-◌, ◌<◌, ◌≤◌}
 use native.Mathlib.Omega.{arith}
@@ -11,8 +11,6 @@ use lib.Dec.{ltb}
 use lib.Ieee.{Float}
 use lib.ListN.{length, get_or, take, length-append, get_or-append}
 use lib.Seq.{get_or_at, take-suc}
-use Rattle.costs.specs.declared.DissatProb.{DissatProb}
-use Rattle.cache.specs.declared.Found.TheVariants.{At, Missing}
 use Rattle.memory.specs.Layout.{work_words, keys_from, entries_from, max_entries, word_at, table_count}
 use Rattle.cache.specs.Slots.{Slot, length_in, entry_at, entries_up_to, slot_at, slots_up_to, slots, Kept}
 use Rattle.cache.specs.Lookup.{same_key, newest, find_up_to, find_in}
@@ -131,13 +129,13 @@ slot-at m s d h = at-number m (table_count m) s d h
 
 -- ---- the table that is found
 
-pub record FoundAt (m : List ℕ) (n s number : ℕ) (sat : Float) (dissat : DissatProb) : Type 0 where
+pub record FoundAt (m : List ℕ) (n s number : ℕ) (sat : Float) (dissat : Option Float) : Type 0 where
   pub there : s < n
   pub same : same_key number sat dissat (slot_at m s) ≡ true
-  pub newest : newest number sat dissat (slots_up_to m n) ≡ some (slot_at m s)
+  pub newest : newest number sat dissat (slots_up_to m n) ≡ Some (slot_at m s)
 
-module _ (m : List ℕ) (number : ℕ) (sat : Float) (dissat : DissatProb) where
-  find-here : (n : ℕ) → same_key number sat dissat (slot_at m n) ≡ true → find_up_to m (suc n) number sat dissat ≡ At n
+module _ (m : List ℕ) (number : ℕ) (sat : Float) (dissat : Option Float) where
+  find-here : (n : ℕ) → same_key number sat dissat (slot_at m n) ≡ true → find_up_to m (suc n) number sat dissat ≡ Some n
   unfolding find_up_to
   find-here n e = rw e
 
@@ -146,13 +144,13 @@ module _ (m : List ℕ) (number : ℕ) (sat : Float) (dissat : DissatProb) where
   unfolding find_up_to
   find-older n e = rw e
 
-  pub find_none : find_up_to m 0 number sat dissat ≡ Missing
+  pub find_none : find_up_to m 0 number sat dissat ≡ None
   unfolding find_up_to
   find_none = refl
 
   -- the turns of a search from the newest on
   pub here-below : (n : ℕ) {r : Bool} → 0 < n → r ≡ same_key number sat dissat (slot_at m (n - 1)) → r ≡ true
-      → At (n - 1) ≡ find_up_to m n number sat dissat
+      → Some (n - 1) ≡ find_up_to m n number sat dissat
   here-below n h k e =
       let i : n ≡ suc (n - 1) = omega arith in
       sym (ap (λ (k : ℕ). find_up_to m k number sat dissat) i ∙ find-here (n - 1) (sym k ∙ e))
@@ -163,12 +161,12 @@ module _ (m : List ℕ) (number : ℕ) (sat : Float) (dissat : DissatProb) where
       let i : n ≡ suc (n - 1) = omega arith in
       sym (ap (λ (k : ℕ). find_up_to m k number sat dissat) i ∙ find-older (n - 1) (sym k ∙ e))
 
-  found-up-to : (n s : ℕ) → find_up_to m n number sat dissat ≡ At s → FoundAt m n s number sat dissat
+  found-up-to : (n s : ℕ) → find_up_to m n number sat dissat ≡ Some s → FoundAt m n s number sat dissat
   unfolding find_up_to newest slots_up_to
   found-up-to zero s e = absurd (let z : ◌≡◌ {A = ℕ} 0 1 = cc in omega arith)
   found-up-to (suc n) s e = by_key (λ e. found-up-to n s e) (same_key number sat dissat (slot_at m n)) refl e
     where
-      by_key : (find_up_to m n number sat dissat ≡ At s → FoundAt m n s number sat dissat) → (t : Bool) → same_key number sat dissat (slot_at m n) ≡ t → cond t (At n) (find_up_to m n number sat dissat) ≡ At s
+      by_key : (find_up_to m n number sat dissat ≡ Some s → FoundAt m n s number sat dissat) → (t : Bool) → same_key number sat dissat (slot_at m n) ≡ t → cond t (Some n) (find_up_to m n number sat dissat) ≡ Some s
           → FoundAt m (suc n) s number sat dissat
       by_key before true k e =
           let q : n ≡ s = cc in
@@ -177,19 +175,19 @@ module _ (m : List ℕ) (number : ℕ) (sat : Float) (dissat : DissatProb) where
           let older = before e in
           record { there = omega (arith, older.there); same = older.same; newest = rw k older.newest }
 
-  missing-up-to : (n : ℕ) → find_up_to m n number sat dissat ≡ Missing → newest number sat dissat (slots_up_to m n) ≡ none
+  missing-up-to : (n : ℕ) → find_up_to m n number sat dissat ≡ None → newest number sat dissat (slots_up_to m n) ≡ None
   unfolding find_up_to newest slots_up_to
   missing-up-to zero e = refl
   missing-up-to (suc n) e = by_key (λ e. missing-up-to n e) (same_key number sat dissat (slot_at m n)) refl e
     where
-      by_key : (find_up_to m n number sat dissat ≡ Missing → newest number sat dissat (slots_up_to m n) ≡ none) → (t : Bool) → same_key number sat dissat (slot_at m n) ≡ t → cond t (At n) (find_up_to m n number sat dissat) ≡ Missing
-          → newest number sat dissat (slot_at m n ∷ slots_up_to m n) ≡ none
+      by_key : (find_up_to m n number sat dissat ≡ None → newest number sat dissat (slots_up_to m n) ≡ None) → (t : Bool) → same_key number sat dissat (slot_at m n) ≡ t → cond t (Some n) (find_up_to m n number sat dissat) ≡ None
+          → newest number sat dissat (slot_at m n ∷ slots_up_to m n) ≡ None
       by_key before true k e = absurd (let z : ◌≡◌ {A = ℕ} 0 1 = cc in omega arith)
       by_key before false k e = rw k (before e)
 
   -- what the answers of `find` tell
-  pub found_at : (s : ℕ) → find_in m number sat dissat ≡ At s → FoundAt m (table_count m) s number sat dissat
+  pub found_at : (s : ℕ) → find_in m number sat dissat ≡ Some s → FoundAt m (table_count m) s number sat dissat
   found_at s e = found-up-to (table_count m) s e
 
-  pub found_none : find_in m number sat dissat ≡ Missing → newest number sat dissat (slots m) ≡ none
+  pub found_none : find_in m number sat dissat ≡ None → newest number sat dissat (slots m) ≡ None
   found_none e = missing-up-to (table_count m) e

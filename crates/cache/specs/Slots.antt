@@ -1,19 +1,17 @@
 -- The tables that work memory remembers: document 01, "Modules, leaves first", 7 (tables are remembered by policy structure, satisfaction
 -- probability and dissatisfaction probability). A policy is its number, and an entry the number of a node. Assumes nothing.
-use Rattle.std.specs.Prelude.{cond, List, [], ◌∷◌, ◌++◌, ◌≡◌, ℕ, zero, suc, ◌+◌, ◌*◌, ◌/◌, ◌%◌, ◌^◌, ◌<◌, ◌≤◌, min, eqb, Float, length}
+use Rattle.std.specs.Prelude.{cond, List, [], ◌∷◌, ◌++◌, ◌≡◌, ℕ, zero, suc, ◌+◌, ◌*◌, ◌/◌, ◌%◌, ◌^◌, ◌<◌, ◌≤◌, min, eqb, Float, length, Option, None, Some}
 use Rattle.words.specs.Floats.{float_of_word}
-use Rattle.costs.specs.declared.DissatProb.{DissatProb}
-use Rattle.costs.specs.declared.DissatProb.TheVariants as Prob
 use Rattle.memory.specs.Layout.{work_words, keys_from, entries_from, max_tables, max_entries, word_at, table_count}
 
 -- a remembered table: of which policy, at which probabilities
 pub record Slot : Type 0 where
   pub number : ℕ
   pub sat : Float
-  pub dissat : DissatProb
+  pub dissat : Option Float
   pub entries : List ℕ
 
-abbrev pub slot : ℕ → Float → DissatProb → List ℕ → Slot
+abbrev pub slot : ℕ → Float → Option Float → List ℕ → Slot
 slot number sat dissat entries = record { number = number; sat = sat; dissat = dissat; entries = entries }
 
 -- ---- the three words of a key
@@ -28,8 +26,8 @@ flag_in key = key / 0x1_0000 % 2
 abbrev pub length_in : ℕ → ℕ
 length_in key = min (key / 0x2_0000) max_entries
 
-abbrev pub dissat_in : (flag word : ℕ) → DissatProb
-dissat_in flag word = cond (eqb flag 1) (Prob.Some (float_of_word word)) Prob.None
+abbrev pub dissat_in : (flag word : ℕ) → Option Float
+dissat_in flag word = cond (eqb flag 1) (Some (float_of_word word)) None
 
 -- ---- the entries, four to a word
 

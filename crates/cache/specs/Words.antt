@@ -1,40 +1,38 @@
 -- A table as words, for the functions that write and compare them: its key in three words, and its entries in a row of them. Assumes nothing.
-use Rattle.std.specs.Prelude.{Bool, true, List, [], ◌∷◌, ◌≡◌, ℕ, ◌+◌, ◌*◌, ◌/◌, ◌%◌, ◌<◌, Float, length, get_or}
+use Rattle.std.specs.Prelude.{Bool, true, List, [], ◌∷◌, ◌≡◌, ℕ, ◌+◌, ◌*◌, ◌/◌, ◌%◌, ◌<◌, Float, length, get_or, Option, None, Some}
 use Rattle.std.specs.Float.Ieee.{eq}
 use Rattle.std.proofs.lemmas.List.Edits.{sets}
 use Rattle.words.specs.Floats.{word_of_float, float_of_word}
-use Rattle.costs.specs.declared.DissatProb.{DissatProb}
-use Rattle.costs.specs.declared.DissatProb.TheVariants as Prob
 use Rattle.memory.specs.Layout.{keys_from}
 use Rattle.cache.specs.Slots.{dissat_in, entry_in}
 
-abbrev pub flag_of : DissatProb → ℕ
-flag_of (Prob.Some p) = 1
-flag_of Prob.None = 0
+abbrev pub flag_of : Option Float → ℕ
+flag_of (Some p) = 1
+flag_of None = 0
 
-abbrev pub dissat_word : DissatProb → ℕ
-dissat_word (Prob.Some p) = word_of_float p
-dissat_word Prob.None = 0
+abbrev pub dissat_word : Option Float → ℕ
+dissat_word (Some p) = word_of_float p
+dissat_word None = 0
 
 -- what a key's first word begins with
-abbrev pub key_start : ℕ → DissatProb → ℕ
+abbrev pub key_start : ℕ → Option Float → ℕ
 key_start number dissat = number + flag_of dissat * 0x1_0000
 
 -- a word holds a dissatisfaction probability
-pub record Holds (dissat : DissatProb) (word : ℕ) : Type 0 where
+pub record Holds (dissat : Option Float) (word : ℕ) : Type 0 where
   pub is : word ≡ dissat_word dissat
   pub again : dissat_in (flag_of dissat) (dissat_word dissat) ≡ dissat
 
 -- a dissatisfaction probability is the one of a word, if there is one
-abbrev pub same_word : DissatProb → ℕ → Bool
-same_word (Prob.Some p) word = eq p (float_of_word word)
-same_word Prob.None word = true
+abbrev pub same_word : Option Float → ℕ → Bool
+same_word (Some p) word = eq p (float_of_word word)
+same_word None word = true
 
-abbrev pub key_words : (number : ℕ) → Float → DissatProb → (len : ℕ) → List ℕ
+abbrev pub key_words : (number : ℕ) → Float → Option Float → (len : ℕ) → List ℕ
 key_words number sat dissat len = (key_start number dissat + len * 0x2_0000) ∷ word_of_float sat ∷ dissat_word dissat ∷ []
 
 -- the key of table s is written, and its words give the probabilities back
-pub record KeyPut (m₀ m : List ℕ) (s number : ℕ) (sat : Float) (dissat : DissatProb) (len : ℕ) : Type 0 where
+pub record KeyPut (m₀ m : List ℕ) (s number : ℕ) (sat : Float) (dissat : Option Float) (len : ℕ) : Type 0 where
   pub is : m ≡ sets m₀ (keys_from + 3 * s) (key_words number sat dissat len)
   pub small : number < 0x1_0000
   pub sat_again : float_of_word (word_of_float sat) ≡ sat

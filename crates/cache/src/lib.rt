@@ -15,7 +15,6 @@ ghost use Rattle.cache.specs.Lookup.{same_key, find_in};
 ghost use Rattle.cache.specs.Words.{flag_of, key_start, Holds, same_word, KeyPut, Fours, RowPut};
 ghost use Rattle.cache.specs.Answers.{Stores};
 
-use costs::DissatProb;
 use words::{float_of_word, word_of_float};
 
 // The word that counts the tables, and where their keys and their entries begin.
@@ -30,97 +29,72 @@ const MAX_TABLES: usize = 2048;
 
 const MAX_ENTRIES: usize = 128;
 
-// What a search among the tables answers: the number of the newest under a key, or that there is none.
-#[derive(Clone, Copy)]
-pub enum Found {
-    At(u16),
-    Missing,
-}
-
-// What storing a table answers: its number, or that there is room for no more.
-#[derive(Clone, Copy)]
-pub enum Stored {
-    At(u16),
-    Full,
-}
-
 // 1 where there is a dissatisfaction probability, 0 where there is none.
-fn flag_of(dissat: DissatProb) -> u64
+fn flag_of(dissat: Option<f64>) -> u64
     ensures { result ≡ flag_of dissat }
 {
-    match dissat {
-        DissatProb::Some(_) => 1,
-        DissatProb::None => 0,
-    }
+    dissat.is_some() as u64
 }
 
 // What a key of this policy begins with.
-fn key_start(number: u16, dissat: DissatProb) -> u64
+fn key_start(number: u16, dissat: Option<f64>) -> u64
     ensures { result ≡ key_start number dissat }
 {
     number as u64 + flag_of(dissat) * 0x1_0000
 }
 
 // Whether a dissatisfaction probability is that of a word, if there is one.
-fn same_word(dissat: DissatProb, word: u64) -> bool
+fn same_word(dissat: Option<f64>, word: u64) -> bool
     ensures { result ≡ same_word dissat word }
 {
     match dissat {
-        DissatProb::Some(p) => p == float_of_word(word),
-        DissatProb::None => true,
+        Some(p) => p == float_of_word(word),
+        None => true,
     }
 }
 
 // Whether both probabilities are those of two words.
-fn same_words(sat: f64, dissat: DissatProb, sat_word: u64, dissat_word: u64) -> bool
+fn same_words(sat: f64, dissat: Option<f64>, sat_word: u64, dissat_word: u64) -> bool
     ensures { result ≡ (eq sat (float_of_word sat_word) && same_word dissat dissat_word) }
 {
-    if sat == float_of_word(sat_word) {
-        return same_word(dissat, dissat_word);
-    }
-    false
+    sat == float_of_word(sat_word) && same_word(dissat, dissat_word)
 }
 
 // Whether table s is remembered under a key, which begins with `start`.
-fn same_key(work: &[u64], s: usize, number: u16, start: u64, sat: f64, dissat: DissatProb) -> bool
+fn same_key(work: &[u64], s: usize, number: u16, start: u64, sat: f64, dissat: Option<f64>) -> bool
     requires { Kept work.now × ((s < max_tables) × (start ≡ key_start number dissat)) }
     ensures { result ≡ same_key number sat dissat (slot_at work.now s) }
 {
     let at = KEYS + 3 * s;
-    if work[at] % 0x2_0000 == start {
-        return same_words(sat, dissat, work[at + 1], work[at + 2]);
-    }
-    false
+    work[at] % 0x2_0000 == start && same_words(sat, dissat, work[at + 1], work[at + 2])
 }
 
 // The newest table of a policy at these probabilities.
-pub fn find(work: &[u64], number: u16, sat: f64, dissat: DissatProb) -> Found
+pub fn find(work: &[u64], number: u16, sat: f64, dissat: Option<f64>) -> Option<u16>
     requires { Kept work.now }
     ensures { result ≡ find_in work.now number sat dissat }
 {
     let start = key_start(number, dissat);
-    let mut n = work[COUNT] as usize;
-    while 0 < n {
-        n -= 1;
+    for n in (0..work[COUNT] as usize).rev() {
         if same_key(work, n, number, start, sat, dissat) {
-            return Found::At(n as u16);
+            return Some(n as u16);
         }
     }
-    Found::Missing
+    None
 }
 
 // The word of a dissatisfaction probability; 0 where there is none.
-fn dissat_word(dissat: DissatProb) -> u64
+fn dissat_word(dissat: Option<f64>) -> u64
     ensures { Holds dissat result }
 {
     match dissat {
-        DissatProb::Some(p) => word_of_float(p),
-        DissatProb::None => 0,
+        Some(p) => word_of_float(p),
+        None => 0,
     }
 }
 
 // Writes the key of table s.
-fn put_key(work: &mut [u64], s: usize, number: u16, sat: f64, dissat: DissatProb, len: usize)
+fn put_key(work: &mut [u64], s: usize, number: u16, sat: f64, dissat: Option<f64>, len: usize)
     requires { (length work.old ≡ work_words) × ((s < max_tables) × (len ≤ max_entries)) }
     ensures { KeyPut work.old work.new s number sat dissat len }
 {
@@ -145,12 +119,10 @@ fn put_entries(row: &mut [u64], entries: [u16; 128], len: usize)
     requires { (length row.old ≡ 32) × (len ≤ max_entries) }
     ensures { RowPut row.old row.new entries len }
 {
-    let words = (len + 3) / 4;
-    let mut k = 0;
-    while k < words {
+    let words = len.div_ceil(4);
+    for k in 0..words {
         let j = 4 * k;
         row[k] = four(entries[j], entries[j + 1], entries[j + 2], entries[j + 3]);
-        k += 1;
     }
 }
 
@@ -159,22 +131,22 @@ pub fn store(
     work: &mut [u64],
     number: u16,
     sat: f64,
-    dissat: DissatProb,
+    dissat: Option<f64>,
     entries: [u16; 128],
     len: usize,
-) -> Stored
+) -> Option<u16>
     requires { Kept work.old × (len ≤ max_entries) }
     ensures { Stores work.old work.new (slot number sat dissat (take len entries)) result }
 {
     let s = work[COUNT] as usize;
     if MAX_TABLES <= s {
-        return Stored::Full;
+        return None;
     }
     let at = ENTRIES + 32 * s;
     put_entries(&mut work[at..at + 32], entries, len);
     put_key(work, s, number, sat, dissat, len);
     work[COUNT] = s as u64 + 1;
-    Stored::At(s as u16)
+    Some(s as u16)
 }
 
 // How many entries table s has.
@@ -184,7 +156,7 @@ pub fn length_of(work: &[u64], s: u16) -> usize
 {
     let key = work[KEYS + 3 * (s as usize)];
     let len = (key / 0x2_0000) as usize;
-    if len < MAX_ENTRIES { len } else { MAX_ENTRIES }
+    len.min(MAX_ENTRIES)
 }
 
 // Entry j of table s.

@@ -1,8 +1,9 @@
 -- The ten casts, from Cast and all_casts in policy/compiler.rs: document 01, "Modules, leaves first", 4.
-use Rattle.std.specs.Prelude.{List, [], ◌∷◌, ℕ, zero, suc}
+use Rattle.candidates.specs.declared.CastError.{CastError}
+use Rattle.correctness.specs.declared.TypeError.{TypeError}
+use Rattle.std.specs.Prelude.{List, [], ◌∷◌, ℕ, zero, suc, Result, Ok, Err}
 use Rattle.contexts.specs.declared.Context.{Context}
 use Rattle.types.specs.declared.«Type».{«Type»}
-use Rattle.types.specs.declared.TypeResult.{TypeResult}
 use Rattle.types.specs.TypeRules as type
 use Rattle.figures.specs.declared.ExtData.{ExtData}
 use Rattle.figures.specs.Rules as ext
@@ -11,8 +12,6 @@ use Rattle.costs.specs.Rules as cost
 use Rattle.candidates.specs.FragmentKinds.{Alt, Swap, Check, DupIf, Verify, NonZero, ZeroNotEqual, AndV, OrI}
 use Rattle.candidates.specs.FragmentKinds.{false_node, true_node, no_child}
 use Rattle.candidates.specs.declared.Candidate.{Candidate}
-use Rattle.candidates.specs.declared.CastResult.{CastResult}
-use Rattle.candidates.specs.declared.CastResult.TheVariants.{Cast, IllTyped, Unknown}
 use Rattle.candidates.specs.Candidates.{candidate}
 
 -- the children of a cast's node, from the node that is cast: the first and the second
@@ -36,11 +35,11 @@ X-True x = record { first = x; second = true_node }
 pub record Row : Type 0 where
   pub kind : ℕ
   pub children : ℕ → Children
-  pub type_rule : «Type» → TypeResult
+  pub type_rule : «Type» → Result «Type» TypeError
   pub ext_rule : ExtData → ExtData
   pub cost_rule : Cost → Cost
 
-abbrev pub row : ℕ → (ℕ → Children) → («Type» → TypeResult) → (ExtData → ExtData) → (Cost → Cost) → Row
+abbrev pub row : ℕ → (ℕ → Children) → («Type» → Result «Type» TypeError) → (ExtData → ExtData) → (Cost → Cost) → Row
 row kind children t e c = record { kind = kind; children = children; type_rule = t; ext_rule = e; cost_rule = c }
 
 abbrev pub check : Row
@@ -78,19 +77,19 @@ abbrev pub all_casts : Context → List Row
 all_casts context = check ∷ dupif context ∷ likely ∷ unlikely ∷ verify ∷ nonzero ∷ true' ∷ swap ∷ alt ∷ zeronotequal ∷ []
 
 -- a candidate unless the type rule says ill-typed
-abbrev pub cast_as : ℕ → Children → TypeResult → ExtData → Cost → CastResult
-cast_as kind children (TypeResult.Ok t) e c = Cast (candidate kind children.first children.second no_child t e c)
-cast_as kind children TypeResult.IllTyped e c = IllTyped
+abbrev pub cast_as : ℕ → Children → Result «Type» TypeError → ExtData → Cost → Result Candidate CastError
+cast_as kind children (Ok t) e c = Ok (candidate kind children.first children.second no_child t e c)
+cast_as kind children (Err error) e c = Err CastError.IllTyped
 
 -- the cast of a candidate that is node `node`
-abbrev pub cast_by : Row → Candidate → ℕ → CastResult
+abbrev pub cast_by : Row → Candidate → ℕ → Result Candidate CastError
 cast_by r x node = cast_as r.kind (r.children node) (r.type_rule x.ty) (r.ext_rule x.ext) (r.cost_rule x.cost)
 
-unfoldable pub cast_from : List Row → ℕ → Candidate → ℕ → CastResult
-cast_from [] number x node = Unknown
+unfoldable pub cast_from : List Row → ℕ → Candidate → ℕ → Result Candidate CastError
+cast_from [] number x node = Err CastError.Unknown
 cast_from (r ∷ rows) zero x node = cast_by r x node
 cast_from (r ∷ rows) (suc number) x node = cast_from rows number x node
 
 -- the cast of a number, 0 for the first
-abbrev pub cast_of : Context → ℕ → Candidate → ℕ → CastResult
+abbrev pub cast_of : Context → ℕ → Candidate → ℕ → Result Candidate CastError
 cast_of context number = cast_from (all_casts context) number

@@ -6,6 +6,8 @@
 
 ghost use Rattle.std.specs.Prelude.{◌≡◌, ◌≤◌};
 ghost use Rattle.figures.specs.Bounds.{Small};
+ghost use Rattle.candidates.specs.declared.CastError.TheVariants as CastError;
+ghost use Rattle.candidates.specs.declared.NotMade.TheVariants as NotMade;
 ghost use Rattle.candidates.specs.Candidates.{candidate, cost_at};
 ghost use Rattle.candidates.specs.Leaves.{sig_type, false_candidate, true_candidate, pk_k, pk_h, after, older};
 ghost use Rattle.candidates.specs.Leaves.{sha256, hash256, ripemd160, hash160, multi, multi_a};
@@ -14,9 +16,10 @@ ghost use Rattle.candidates.specs.Casts.{cast_by, cast_of};
 ghost use Rattle.candidates.specs.Pairs.{and_b, and_v, or_b, or_d, or_c, or_i, pair_by, pair_of, and_or};
 
 use contexts::Context;
-use costs::{Cost, Costed, DissatProb, Price, SigType, cost_1d};
+use correctness::TypeError;
+use costs::{Cost, Price, SigType, cost_1d};
 use figures::ExtData;
-use types::{Type, TypeResult};
+use types::Type;
 
 // Document 01's numbers of the kinds of fragments.
 pub const FALSE: u16 = 32;
@@ -92,20 +95,34 @@ pub struct Candidate {
     pub cost: Cost,
 }
 
-// What a cast answers: the new candidate, or that it is ill-typed, or that there is no cast of this number.
+// Why a cast gives no candidate: it is ill-typed, or there is no cast of this number.
 #[derive(Clone, Copy)]
-pub enum CastResult {
-    Cast(Candidate),
+pub enum CastError {
     IllTyped,
     Unknown,
 }
 
-// What putting candidates together answers: passed over where they are ill-typed, missing where a needed dissatisfaction cost is.
+impl From<TypeError> for CastError {
+    ghost from_gives = { λ _ e. e ≡ CastError.IllTyped };
+
+    fn from(_error: TypeError) -> CastError {
+        CastError::IllTyped
+    }
+}
+
+// Why candidates put together give none: they are ill-typed and passed over, or a dissatisfaction cost that is needed is missing.
 #[derive(Clone, Copy)]
-pub enum Made {
-    Candidate(Candidate),
+pub enum NotMade {
     PassedOver,
     Missing,
+}
+
+impl From<TypeError> for NotMade {
+    ghost from_gives = { λ _ e. e ≡ NotMade.PassedOver };
+
+    fn from(_error: TypeError) -> NotMade {
+        NotMade::PassedOver
+    }
 }
 
 // The kind of signature that a context checks.
@@ -264,160 +281,122 @@ impl Candidate {
     }
 
     // The cast Check of this, which is node `node`.
-    pub fn cast_check(self, node: u16) -> CastResult
+    pub fn cast_check(self, node: u16) -> Result<Candidate, CastError>
         requires { Small self.ext }
         ensures { result ≡ cast_by check self node }
     {
-        match self.ty.cast_check() {
-            TypeResult::Ok(ty) => {
-                let ext = self.ext.cast_check();
-                let cost = self.cost.cast_check();
-                CastResult::Cast(over(CHECK, node, NO_CHILD, NO_CHILD, ty, ext, cost))
-            }
-            TypeResult::IllTyped => CastResult::IllTyped,
-        }
+        let ty = self.ty.cast_check()?;
+        let ext = self.ext.cast_check();
+        let cost = self.cost.cast_check();
+        Ok(over(CHECK, node, NO_CHILD, NO_CHILD, ty, ext, cost))
     }
 
     // The cast DupIf of this, which is node `node`, in a context.
-    pub fn cast_dupif(self, context: Context, node: u16) -> CastResult
+    pub fn cast_dupif(self, context: Context, node: u16) -> Result<Candidate, CastError>
         requires { Small self.ext }
         ensures { result ≡ cast_by (dupif context) self node }
     {
-        match self.ty.cast_dupif(context) {
-            TypeResult::Ok(ty) => {
-                let ext = self.ext.cast_dupif();
-                let cost = self.cost.cast_dupif();
-                CastResult::Cast(over(DUP_IF, node, NO_CHILD, NO_CHILD, ty, ext, cost))
-            }
-            TypeResult::IllTyped => CastResult::IllTyped,
-        }
+        let ty = self.ty.cast_dupif(context)?;
+        let ext = self.ext.cast_dupif();
+        let cost = self.cost.cast_dupif();
+        Ok(over(DUP_IF, node, NO_CHILD, NO_CHILD, ty, ext, cost))
     }
 
     // The cast OrI(False, X), X being this, which is node `node`.
-    pub fn cast_likely(self, node: u16) -> CastResult
+    pub fn cast_likely(self, node: u16) -> Result<Candidate, CastError>
         requires { Small self.ext }
         ensures { result ≡ cast_by likely self node }
     {
-        match self.ty.cast_likely() {
-            TypeResult::Ok(ty) => {
-                let ext = self.ext.cast_likely();
-                let cost = self.cost.cast_likely();
-                CastResult::Cast(over(OR_I, FALSE_NODE, node, NO_CHILD, ty, ext, cost))
-            }
-            TypeResult::IllTyped => CastResult::IllTyped,
-        }
+        let ty = self.ty.cast_likely()?;
+        let ext = self.ext.cast_likely();
+        let cost = self.cost.cast_likely();
+        Ok(over(OR_I, FALSE_NODE, node, NO_CHILD, ty, ext, cost))
     }
 
     // The cast OrI(X, False), X being this, which is node `node`.
-    pub fn cast_unlikely(self, node: u16) -> CastResult
+    pub fn cast_unlikely(self, node: u16) -> Result<Candidate, CastError>
         requires { Small self.ext }
         ensures { result ≡ cast_by unlikely self node }
     {
-        match self.ty.cast_unlikely() {
-            TypeResult::Ok(ty) => {
-                let ext = self.ext.cast_unlikely();
-                let cost = self.cost.cast_unlikely();
-                CastResult::Cast(over(OR_I, node, FALSE_NODE, NO_CHILD, ty, ext, cost))
-            }
-            TypeResult::IllTyped => CastResult::IllTyped,
-        }
+        let ty = self.ty.cast_unlikely()?;
+        let ext = self.ext.cast_unlikely();
+        let cost = self.cost.cast_unlikely();
+        Ok(over(OR_I, node, FALSE_NODE, NO_CHILD, ty, ext, cost))
     }
 
     // The cast Verify of this, which is node `node`.
-    pub fn cast_verify(self, node: u16) -> CastResult
+    pub fn cast_verify(self, node: u16) -> Result<Candidate, CastError>
         requires { Small self.ext }
         ensures { result ≡ cast_by verify self node }
     {
-        match self.ty.cast_verify() {
-            TypeResult::Ok(ty) => {
-                let ext = self.ext.cast_verify();
-                let cost = self.cost.cast_verify();
-                CastResult::Cast(over(VERIFY, node, NO_CHILD, NO_CHILD, ty, ext, cost))
-            }
-            TypeResult::IllTyped => CastResult::IllTyped,
-        }
+        let ty = self.ty.cast_verify()?;
+        let ext = self.ext.cast_verify();
+        let cost = self.cost.cast_verify();
+        Ok(over(VERIFY, node, NO_CHILD, NO_CHILD, ty, ext, cost))
     }
 
     // The cast NonZero of this, which is node `node`.
-    pub fn cast_nonzero(self, node: u16) -> CastResult
+    pub fn cast_nonzero(self, node: u16) -> Result<Candidate, CastError>
         requires { Small self.ext }
         ensures { result ≡ cast_by nonzero self node }
     {
-        match self.ty.cast_nonzero() {
-            TypeResult::Ok(ty) => {
-                let ext = self.ext.cast_nonzero();
-                let cost = self.cost.cast_nonzero();
-                CastResult::Cast(over(NON_ZERO, node, NO_CHILD, NO_CHILD, ty, ext, cost))
-            }
-            TypeResult::IllTyped => CastResult::IllTyped,
-        }
+        let ty = self.ty.cast_nonzero()?;
+        let ext = self.ext.cast_nonzero();
+        let cost = self.cost.cast_nonzero();
+        Ok(over(NON_ZERO, node, NO_CHILD, NO_CHILD, ty, ext, cost))
     }
 
     // The cast AndV(X, True), X being this, which is node `node`.
-    pub fn cast_true(self, node: u16) -> CastResult
+    pub fn cast_true(self, node: u16) -> Result<Candidate, CastError>
         requires { Small self.ext }
         ensures { result ≡ cast_by true' self node }
     {
-        match self.ty.cast_true() {
-            TypeResult::Ok(ty) => {
-                let ext = self.ext.cast_true();
-                let cost = self.cost.cast_true();
-                CastResult::Cast(over(AND_V, node, TRUE_NODE, NO_CHILD, ty, ext, cost))
-            }
-            TypeResult::IllTyped => CastResult::IllTyped,
-        }
+        let ty = self.ty.cast_true()?;
+        let ext = self.ext.cast_true();
+        let cost = self.cost.cast_true();
+        Ok(over(AND_V, node, TRUE_NODE, NO_CHILD, ty, ext, cost))
     }
 
     // The cast Swap of this, which is node `node`.
-    pub fn cast_swap(self, node: u16) -> CastResult
+    pub fn cast_swap(self, node: u16) -> Result<Candidate, CastError>
         requires { Small self.ext }
         ensures { result ≡ cast_by swap self node }
     {
-        match self.ty.cast_swap() {
-            TypeResult::Ok(ty) => {
-                let ext = self.ext.cast_swap();
-                let cost = self.cost.cast_swap();
-                CastResult::Cast(over(SWAP, node, NO_CHILD, NO_CHILD, ty, ext, cost))
-            }
-            TypeResult::IllTyped => CastResult::IllTyped,
-        }
+        let ty = self.ty.cast_swap()?;
+        let ext = self.ext.cast_swap();
+        let cost = self.cost.cast_swap();
+        Ok(over(SWAP, node, NO_CHILD, NO_CHILD, ty, ext, cost))
     }
 
     // The cast Alt of this, which is node `node`.
-    pub fn cast_alt(self, node: u16) -> CastResult
+    pub fn cast_alt(self, node: u16) -> Result<Candidate, CastError>
         requires { Small self.ext }
         ensures { result ≡ cast_by alt self node }
     {
-        match self.ty.cast_alt() {
-            TypeResult::Ok(ty) => {
-                let ext = self.ext.cast_alt();
-                let cost = self.cost.cast_alt();
-                CastResult::Cast(over(ALT, node, NO_CHILD, NO_CHILD, ty, ext, cost))
-            }
-            TypeResult::IllTyped => CastResult::IllTyped,
-        }
+        let ty = self.ty.cast_alt()?;
+        let ext = self.ext.cast_alt();
+        let cost = self.cost.cast_alt();
+        Ok(over(ALT, node, NO_CHILD, NO_CHILD, ty, ext, cost))
     }
 
     // The cast ZeroNotEqual of this, which is node `node`.
-    pub fn cast_zeronotequal(self, node: u16) -> CastResult
+    pub fn cast_zeronotequal(self, node: u16) -> Result<Candidate, CastError>
         requires { Small self.ext }
         ensures { result ≡ cast_by zeronotequal self node }
     {
-        match self.ty.cast_zeronotequal() {
-            TypeResult::Ok(ty) => {
-                let ext = self.ext.cast_zeronotequal();
-                let cost = self.cost.cast_zeronotequal();
-                CastResult::Cast(over(ZERO_NOT_EQUAL, node, NO_CHILD, NO_CHILD, ty, ext, cost))
-            }
-            TypeResult::IllTyped => CastResult::IllTyped,
-        }
+        let ty = self.ty.cast_zeronotequal()?;
+        let ext = self.ext.cast_zeronotequal();
+        let cost = self.cost.cast_zeronotequal();
+        Ok(over(ZERO_NOT_EQUAL, node, NO_CHILD, NO_CHILD, ty, ext, cost))
     }
 
     // The cast of a number, of this, which is node `node`, in a context.
-    pub fn cast(self, context: Context, node: u16, number: u8) -> CastResult
+    #[tactic(auto, unfolding(crate::specs::Casts::cast_from))]
+    pub fn cast(self, context: Context, node: u16, number: u8) -> Result<Candidate, CastError>
         requires { Small self.ext }
         ensures { result ≡ cast_of context number self node }
     {
+        // A cast stays a number: the definition tries them in this order, 0 to 9.
         match number {
             0 => self.cast_check(node),
             1 => self.cast_dupif(context, node),
@@ -429,7 +408,7 @@ impl Candidate {
             7 => self.cast_swap(node),
             8 => self.cast_alt(node),
             9 => self.cast_zeronotequal(node),
-            10..=255 => CastResult::Unknown,
+            _ => Err(CastError::Unknown),
         }
     }
 
@@ -441,18 +420,14 @@ impl Candidate {
         r_node: u16,
         lprob: f64,
         rprob: f64,
-    ) -> Made
+    ) -> Result<Candidate, NotMade>
         requires { Small l.ext × Small r.ext }
         ensures { result ≡ pair_by and_b l l_node r r_node lprob rprob }
     {
-        match Type::and_b(l.ty, r.ty) {
-            TypeResult::Ok(ty) => {
-                let ext = ExtData::and_b(l.ext, r.ext);
-                let cost = Cost::and_b(l.cost, r.cost);
-                Made::Candidate(over(AND_B, l_node, r_node, NO_CHILD, ty, ext, cost))
-            }
-            TypeResult::IllTyped => Made::PassedOver,
-        }
+        let ty = Type::and_b(l.ty, r.ty)?;
+        let ext = ExtData::and_b(l.ext, r.ext);
+        let cost = Cost::and_b(l.cost, r.cost);
+        Ok(over(AND_B, l_node, r_node, NO_CHILD, ty, ext, cost))
     }
 
     // The pair AndV of l and r, each followed by its node, at the probabilities of its branches.
@@ -463,18 +438,14 @@ impl Candidate {
         r_node: u16,
         lprob: f64,
         rprob: f64,
-    ) -> Made
+    ) -> Result<Candidate, NotMade>
         requires { Small l.ext × Small r.ext }
         ensures { result ≡ pair_by and_v l l_node r r_node lprob rprob }
     {
-        match Type::and_v(l.ty, r.ty) {
-            TypeResult::Ok(ty) => {
-                let ext = ExtData::and_v(l.ext, r.ext);
-                let cost = Cost::and_v(l.cost, r.cost);
-                Made::Candidate(over(AND_V, l_node, r_node, NO_CHILD, ty, ext, cost))
-            }
-            TypeResult::IllTyped => Made::PassedOver,
-        }
+        let ty = Type::and_v(l.ty, r.ty)?;
+        let ext = ExtData::and_v(l.ext, r.ext);
+        let cost = Cost::and_v(l.cost, r.cost);
+        Ok(over(AND_V, l_node, r_node, NO_CHILD, ty, ext, cost))
     }
 
     // The pair OrB of l and r, each followed by its node, at the probabilities of its branches.
@@ -485,22 +456,14 @@ impl Candidate {
         r_node: u16,
         lprob: f64,
         rprob: f64,
-    ) -> Made
+    ) -> Result<Candidate, NotMade>
         requires { Small l.ext × Small r.ext }
         ensures { result ≡ pair_by or_b l l_node r r_node lprob rprob }
     {
-        match Type::or_b(l.ty, r.ty) {
-            TypeResult::Ok(ty) => {
-                let ext = ExtData::or_b(l.ext, r.ext);
-                match Cost::or_b(l.cost, r.cost, lprob, rprob) {
-                    Costed::Cost(cost) => Made::Candidate(over(
-                        OR_B, l_node, r_node, NO_CHILD, ty, ext, cost,
-                    )),
-                    Costed::Missing => Made::Missing,
-                }
-            }
-            TypeResult::IllTyped => Made::PassedOver,
-        }
+        let ty = Type::or_b(l.ty, r.ty)?;
+        let ext = ExtData::or_b(l.ext, r.ext);
+        let cost = Cost::or_b(l.cost, r.cost, lprob, rprob).ok_or(NotMade::Missing)?;
+        Ok(over(OR_B, l_node, r_node, NO_CHILD, ty, ext, cost))
     }
 
     // The pair OrD of l and r, each followed by its node, at the probabilities of its branches.
@@ -511,22 +474,14 @@ impl Candidate {
         r_node: u16,
         lprob: f64,
         rprob: f64,
-    ) -> Made
+    ) -> Result<Candidate, NotMade>
         requires { Small l.ext × Small r.ext }
         ensures { result ≡ pair_by or_d l l_node r r_node lprob rprob }
     {
-        match Type::or_d(l.ty, r.ty) {
-            TypeResult::Ok(ty) => {
-                let ext = ExtData::or_d(l.ext, r.ext);
-                match Cost::or_d(l.cost, r.cost, lprob, rprob) {
-                    Costed::Cost(cost) => Made::Candidate(over(
-                        OR_D, l_node, r_node, NO_CHILD, ty, ext, cost,
-                    )),
-                    Costed::Missing => Made::Missing,
-                }
-            }
-            TypeResult::IllTyped => Made::PassedOver,
-        }
+        let ty = Type::or_d(l.ty, r.ty)?;
+        let ext = ExtData::or_d(l.ext, r.ext);
+        let cost = Cost::or_d(l.cost, r.cost, lprob, rprob).ok_or(NotMade::Missing)?;
+        Ok(over(OR_D, l_node, r_node, NO_CHILD, ty, ext, cost))
     }
 
     // The pair OrC of l and r, each followed by its node, at the probabilities of its branches.
@@ -537,22 +492,14 @@ impl Candidate {
         r_node: u16,
         lprob: f64,
         rprob: f64,
-    ) -> Made
+    ) -> Result<Candidate, NotMade>
         requires { Small l.ext × Small r.ext }
         ensures { result ≡ pair_by or_c l l_node r r_node lprob rprob }
     {
-        match Type::or_c(l.ty, r.ty) {
-            TypeResult::Ok(ty) => {
-                let ext = ExtData::or_c(l.ext, r.ext);
-                match Cost::or_c(l.cost, r.cost, lprob, rprob) {
-                    Costed::Cost(cost) => Made::Candidate(over(
-                        OR_C, l_node, r_node, NO_CHILD, ty, ext, cost,
-                    )),
-                    Costed::Missing => Made::Missing,
-                }
-            }
-            TypeResult::IllTyped => Made::PassedOver,
-        }
+        let ty = Type::or_c(l.ty, r.ty)?;
+        let ext = ExtData::or_c(l.ext, r.ext);
+        let cost = Cost::or_c(l.cost, r.cost, lprob, rprob).ok_or(NotMade::Missing)?;
+        Ok(over(OR_C, l_node, r_node, NO_CHILD, ty, ext, cost))
     }
 
     // The pair OrI of l and r, each followed by its node, at the probabilities of its branches.
@@ -563,21 +510,18 @@ impl Candidate {
         r_node: u16,
         lprob: f64,
         rprob: f64,
-    ) -> Made
+    ) -> Result<Candidate, NotMade>
         requires { Small l.ext × Small r.ext }
         ensures { result ≡ pair_by or_i l l_node r r_node lprob rprob }
     {
-        match Type::or_i(l.ty, r.ty) {
-            TypeResult::Ok(ty) => {
-                let ext = ExtData::or_i(l.ext, r.ext);
-                let cost = Cost::or_i(l.cost, r.cost, lprob, rprob);
-                Made::Candidate(over(OR_I, l_node, r_node, NO_CHILD, ty, ext, cost))
-            }
-            TypeResult::IllTyped => Made::PassedOver,
-        }
+        let ty = Type::or_i(l.ty, r.ty)?;
+        let ext = ExtData::or_i(l.ext, r.ext);
+        let cost = Cost::or_i(l.cost, r.cost, lprob, rprob);
+        Ok(over(OR_I, l_node, r_node, NO_CHILD, ty, ext, cost))
     }
 
     // The pair of a kind, of l and r, each followed by its node, at the probabilities of its branches.
+    #[tactic(auto, unfolding(crate::specs::Pairs::pair_from))]
     pub fn pair(
         kind: u16,
         l: Candidate,
@@ -586,19 +530,19 @@ impl Candidate {
         r_node: u16,
         lprob: f64,
         rprob: f64,
-    ) -> Made
+    ) -> Result<Candidate, NotMade>
         requires { Small l.ext × Small r.ext }
         ensures { result ≡ pair_of kind l l_node r r_node lprob rprob }
     {
+        // A kind stays a number: a record or a node holds one, and the contract answers on every number.
         match kind {
-            0..=48 => Made::PassedOver,
             49 => Candidate::and_b(l, l_node, r, r_node, lprob, rprob),
             50 => Candidate::and_v(l, l_node, r, r_node, lprob, rprob),
             51 => Candidate::or_b(l, l_node, r, r_node, lprob, rprob),
             52 => Candidate::or_d(l, l_node, r, r_node, lprob, rprob),
             53 => Candidate::or_c(l, l_node, r, r_node, lprob, rprob),
             54 => Candidate::or_i(l, l_node, r, r_node, lprob, rprob),
-            55..=65535 => Made::PassedOver,
+            _ => Err(NotMade::PassedOver),
         }
     }
 
@@ -612,31 +556,21 @@ impl Candidate {
         c_node: u16,
         aprob: f64,
         cprob: f64,
-    ) -> Made
+    ) -> Result<Candidate, NotMade>
         requires { Small a.ext × (Small b.ext × Small c.ext) }
         ensures { result ≡ and_or a a_node b b_node c c_node aprob cprob }
     {
-        match Type::and_or(a.ty, b.ty, c.ty) {
-            TypeResult::Ok(ty) => {
-                let ext = ExtData::and_or(a.ext, b.ext, c.ext);
-                match Cost::and_or(a.cost, b.cost, c.cost, aprob, cprob) {
-                    Costed::Cost(cost) => Made::Candidate(over(
-                        AND_OR, a_node, b_node, c_node, ty, ext, cost,
-                    )),
-                    Costed::Missing => Made::Missing,
-                }
-            }
-            TypeResult::IllTyped => Made::PassedOver,
-        }
+        let ty = Type::and_or(a.ty, b.ty, c.ty)?;
+        let ext = ExtData::and_or(a.ext, b.ext, c.ext);
+        let cost = Cost::and_or(a.cost, b.cost, c.cost, aprob, cprob).ok_or(NotMade::Missing)?;
+        Ok(over(AND_OR, a_node, b_node, c_node, ty, ext, cost))
     }
 
     // What this costs at the probabilities of satisfaction and of dissatisfaction.
-    pub fn cost_at(self, sat_prob: f64, dissat_prob: DissatProb) -> Price
+    pub fn cost_at(self, sat_prob: f64, dissat_prob: Option<f64>) -> Price
         requires { Small self.ext }
         ensures { result ≡ cost_at self sat_prob dissat_prob }
     {
-        let ext = self.ext;
-        let cost = self.cost;
-        cost_1d(ext.pk_cost as u32, cost, sat_prob, dissat_prob)
+        cost_1d(self.ext.pk_cost as u32, self.cost, sat_prob, dissat_prob)
     }
 }

@@ -1,16 +1,18 @@
 -- The Thresh over a row of nodes: what it stands for, and that it may be offered to a table. Assumes nothing.
+use Rattle.candidates.specs.declared.NotMade.{NotMade}
+use Rattle.correctness.specs.declared.TypeError.{TypeError}
+use Rattle.std.specs.Prelude.{Option, None, Some, Result, Ok, Err}
+use Rattle.std.specs.Option.{ok_or}
 use mathlib.Core.Path.{◌≡◌, refl, sym, ◌∙◌, ap, subst}
 use mathlib.Core.Bool.{Bool, true, false}
 use mathlib.Core.List.{List, [], ◌∷◌, ◌++◌, map}
-use Prim.Native.Nat.{ℕ, zero, suc, ◌+◌, ◌-◌, ◌<◌, ◌≤◌}
+use Prim.Native.Nat.{ℕ, zero, suc, ◌+◌, ◌<◌, ◌≤◌}
 use native.Mathlib.Omega.{arith}
 use borrow.Author.Tests.{le-leb}
 use lib.ListN.{length, get_or, take}
 use lib.Seq.{take-suc, take_all, length-take-le}
 use Rattle.contexts.specs.declared.Context.{Context}
 use Rattle.types.specs.declared.«Type».{«Type»}
-use Rattle.types.specs.declared.TypeResult.{TypeResult}
-use Rattle.types.specs.declared.TypeResult.TheVariants as TypeResult
 use Rattle.types.specs.TypeRules as type
 use Rattle.types.specs.TypeRules.{typed_if}
 use Rattle.figures.specs.declared.ExtData.{ExtData}
@@ -19,8 +21,6 @@ use Rattle.figures.specs.Validity.{from_ast}
 use Rattle.thresholds.specs.Threshold.{threshold, AllEntered, Children}
 use Rattle.thresholds.proofs.Making.{entered-children, threshold-candidate}
 use Rattle.costs.specs.declared.Cost.{Cost}
-use Rattle.costs.specs.declared.Costed.{Costed}
-use Rattle.costs.specs.declared.Costed.TheVariants as Costed
 use Rattle.costs.specs.Rules as cost
 use Rattle.policies.specs.Forms.{k_of, children_of}
 use Rattle.policies.specs.Array.{policy_at}
@@ -31,8 +31,6 @@ use Rattle.definition.specs.Candidates as definition
 use Rattle.definition.specs.Candidates.{fragments}
 use Rattle.definition.specs.Tables.{Table}
 use Rattle.candidates.specs.declared.Candidate.{Candidate}
-use Rattle.candidates.specs.declared.Made.{Made}
-use Rattle.candidates.specs.declared.Made.TheVariants as Made
 use Rattle.candidates.specs.Candidates.{candidate}
 use Rattle.candidates.specs.Pairs.{made_as}
 use Rattle.memory.specs.Layout.{max_rows, node_count, row_count}
@@ -59,7 +57,7 @@ exts-children {m} holds es h is =
 -- ---- the code's Thresh, with no row yet
 
 module _ (m : List ℕ) (r k n : ℕ) (es : List ℕ) where
-  types-told : n ≤ 16 → (ts : List «Type») {t : TypeResult} → take n ts ≡ types_of m es → t ≡ type.threshold_of k n ts
+  types-told : n ≤ 16 → (ts : List «Type») {t : Result «Type» TypeError} → take n ts ≡ types_of m es → t ≡ type.threshold_of k n ts
       → t ≡ type.threshold k (types_of m es)
   types-told few ts are is =
       is
@@ -70,31 +68,43 @@ module _ (m : List ℕ) (r k n : ℕ) (es : List ℕ) where
   length-costs [] = refl
   length-costs (e ∷ l) = ap suc (length-costs l)
 
-  costs-told : length es ≤ n → (cs : List Cost) {c : Costed} → take n cs ≡ costs_of m es → c ≡ cost.threshold k n cs
+  costs-told : length es ≤ n → (cs : List Cost) {c : Option Cost} → take n cs ≡ costs_of m es → c ≡ cost.threshold k n cs
       → c ≡ cost.threshold k n (costs_of m es)
   unfolding cost.threshold
   costs-told few cs are is =
       let all : take n (costs_of m es) ≡ costs_of m es = take_all n (costs_of m es) (omega (arith, length-costs es)) in
       is ∙ rw (are, all)
 
-  module _ (d : ExtData) (few : n ≤ 16) (ts : List «Type») {t : TypeResult} (types : take n ts ≡ types_of m es) (typed : t ≡ type.threshold_of k n ts) where
-    pub with-ill : t ≡ TypeResult.IllTyped → Made.PassedOver ≡ thresh_with d m r k n es
-    with-ill ill =
-        let same : TypeResult.IllTyped ≡ type.threshold k (types_of m es) = sym ill ∙ types-told few ts types typed in
-        ap (λ (x : TypeResult). made_as thresh_kind r 0 0 x d (cost.threshold k n (costs_of m es))) same
+  module _ (d : ExtData) (few : n ≤ 16) (ts : List «Type») {t : Result «Type» TypeError} (types : take n ts ≡ types_of m es) (typed : t ≡ type.threshold_of k n ts) where
+    pub with-ill : ((u : «Type») → t ≡ Ok u → ⊥) → Err NotMade.PassedOver ≡ thresh_with d m r k n es
+    with-ill ill = by-type t ill ∙ ap (λ (x : Result «Type» TypeError). made_as thresh_kind r 0 0 x d (cost.threshold k n (costs_of m es))) (types-told few ts types typed)
+      where
+        by-type : (x : Result «Type» TypeError) → ((u : «Type») → x ≡ Ok u → ⊥)
+            → Err NotMade.PassedOver ≡ made_as thresh_kind r 0 0 x d (cost.threshold k n (costs_of m es))
+        by-type (Ok u) never = absurd (never u refl)
+        by-type (Err TypeError.IllTyped) never = refl
 
-    module _ (cs : List Cost) {c : Costed} (u : «Type») (ok : t ≡ TypeResult.Ok u) (long : length es ≤ n) (costs : take n cs ≡ costs_of m es)
+    module _ (cs : List Cost) {c : Option Cost} (u : «Type») (ok : t ≡ Ok u) (long : length es ≤ n) (costs : take n cs ≡ costs_of m es)
         (costed : c ≡ cost.threshold k n cs) where
-      with-typed : made_as thresh_kind r 0 0 (TypeResult.Ok u) d c ≡ thresh_with d m r k n es
+      with-typed : made_as thresh_kind r 0 0 (Ok u) d c ≡ thresh_with d m r k n es
       with-typed =
-          ap (λ (x : TypeResult). made_as thresh_kind r 0 0 x d c) (sym ok ∙ types-told few ts types typed)
-          ∙ ap (λ (x : Costed). made_as thresh_kind r 0 0 (type.threshold k (types_of m es)) d x) (costs-told long cs costs costed)
+          ap (λ (x : Result «Type» TypeError). made_as thresh_kind r 0 0 x d c) (sym ok ∙ types-told few ts types typed)
+          ∙ ap (λ (x : Option Cost). made_as thresh_kind r 0 0 (type.threshold k (types_of m es)) d x) (costs-told long cs costs costed)
 
-      pub with-missing : c ≡ Costed.Missing → Made.Missing ≡ thresh_with d m r k n es
-      with-missing is = ap (λ (x : Costed). made_as thresh_kind r 0 0 (TypeResult.Ok u) d x) (sym is) ∙ with-typed
+      pub with-missing : {o : Result Cost NotMade} {e : NotMade} → o ≡ ok_or c NotMade.Missing → o ≡ Err e → Err e ≡ thresh_with d m r k n es
+      with-missing {e = e} or is = by-cost c (sym is ∙ or) ∙ with-typed
+        where
+          by-cost : (c : Option Cost) → Err e ≡ ok_or c NotMade.Missing → Err e ≡ made_as thresh_kind r 0 0 (Ok u) d c
+          by-cost None same = let z : e ≡ NotMade.Missing = cc in ap (λ (e : NotMade). Err e) z
+          by-cost (Some x) same = absurd (let z : ◌≡◌ {A = ℕ} 0 1 = cc in omega arith)
 
-      pub with-made : (x : Cost) → c ≡ Costed.Cost x → Made.Candidate (candidate thresh_kind r 0 0 u d x) ≡ thresh_with d m r k n es
-      with-made x is = ap (λ (x : Costed). made_as thresh_kind r 0 0 (TypeResult.Ok u) d x) (sym is) ∙ with-typed
+      pub with-made : {o : Result Cost NotMade} {x : Cost} → o ≡ ok_or c NotMade.Missing → o ≡ Ok x
+          → Ok (candidate thresh_kind r 0 0 u d x) ≡ thresh_with d m r k n es
+      with-made {x = x} or is = by-cost c (sym is ∙ or) ∙ with-typed
+        where
+          by-cost : (c : Option Cost) → Ok x ≡ ok_or c NotMade.Missing → Ok (candidate thresh_kind r 0 0 u d x) ≡ made_as thresh_kind r 0 0 (Ok u) d c
+          by-cost None same = absurd (let z : ◌≡◌ {A = ℕ} 0 1 = cc in omega arith)
+          by-cost (Some y) same = let z : x ≡ y = cc in ap (λ (c : Cost). Ok (candidate thresh_kind r 0 0 u d c)) z
 
   module _ (c : Context) (ds : List ExtData) {d : ExtData} {t : Bool} (exts : take n ds ≡ exts_of m es) (figured : d ≡ threshold k (take n ds))
       (valid : t ≡ from_ast c 0 d) where
@@ -104,29 +114,29 @@ module _ (m : List ℕ) (r k n : ℕ) (es : List ℕ) where
     valid-told : t ≡ from_ast c 0 (threshold k (exts_of m es))
     valid-told = valid ∙ ap (from_ast c 0) figures-told
 
-    pub of-valid : t ≡ true → {x : Made} → x ≡ thresh_with d m r k n es → x ≡ thresh_at c m r k n es
+    pub of-valid : t ≡ true → {x : Result Candidate NotMade} → x ≡ thresh_with d m r k n es → x ≡ thresh_at c m r k n es
     of-valid taken is =
         is
         ∙ ap (λ (e : ExtData). thresh_with e m r k n es) figures-told
         ∙ ap (λ (b : Bool). if_valid b (thresh_with (threshold k (exts_of m es)) m r k n es)) (sym taken ∙ valid-told)
 
-    pub of_other : t ≡ false → Made.PassedOver ≡ thresh_at c m r k n es
+    pub of_other : t ≡ false → Err NotMade.PassedOver ≡ thresh_at c m r k n es
     of_other left = ap (λ (b : Bool). if_valid b (thresh_with (threshold k (exts_of m es)) m r k n es)) (sym left ∙ valid-told)
 
 -- ---- what it stands for
 
 -- with a tree
-stands_for : Fragment → Made → definition.Made
-stands_for f (Made.Candidate y) = definition.made (definition.candidate f y.ty y.ext y.cost)
-stands_for f Made.PassedOver = definition.passed_over
-stands_for f Made.Missing = definition.missing
+stands_for : Fragment → Result Candidate NotMade → definition.Made
+stands_for f (Ok y) = definition.made (definition.candidate f y.ty y.ext y.cost)
+stands_for f (Err NotMade.PassedOver) = definition.passed_over
+stands_for f (Err NotMade.Missing) = definition.missing
 
-stands : (r : ℕ) (f : Fragment) (v : Bool) (t : TypeResult) (d : ExtData) (c : Costed)
+stands : (r : ℕ) (f : Fragment) (v : Bool) (t : Result «Type» TypeError) (d : ExtData) (c : Option Cost)
     → stands_for f (if_valid v (made_as thresh_kind r 0 0 t d c)) ≡ definition.if_valid v (definition.made_as t f d c)
 unfolding stands_for
-stands r f true (TypeResult.Ok t) d (Costed.Cost c) = refl
-stands r f true (TypeResult.Ok t) d Costed.Missing = refl
-stands r f true TypeResult.IllTyped d c = refl
+stands r f true (Ok t) d (Some c) = refl
+stands r f true (Ok t) d None = refl
+stands r f true (Err TypeError.IllTyped) d c = refl
 stands r f false t d c = refl
 
 module _ (pol m : List ℕ) where
@@ -191,11 +201,11 @@ shape-of : (r : ℕ) (d : ExtData) (t : «Type») (c : Cost) {y : Candidate} →
 shape-of r d t c is =
     subst (Shape r d) is (record { is = refl; ext = refl })
 
-shape : (r : ℕ) (v : Bool) (t : TypeResult) (d : ExtData) (c : Costed) {y : Candidate} → if_valid v (made_as thresh_kind r 0 0 t d c) ≡ Made.Candidate y
+shape : (r : ℕ) (v : Bool) (t : Result «Type» TypeError) (d : ExtData) (c : Option Cost) {y : Candidate} → if_valid v (made_as thresh_kind r 0 0 t d c) ≡ Ok y
     → Shape r d y
-shape r true (TypeResult.Ok t) d (Costed.Cost c) h = shape-of r d t c (cc)
-shape r true (TypeResult.Ok t) d Costed.Missing h = absurd (let z : ◌≡◌ {A = ℕ} 0 1 = cc in omega arith)
-shape r true TypeResult.IllTyped d c h = absurd (let z : ◌≡◌ {A = ℕ} 0 1 = cc in omega arith)
+shape r true (Ok t) d (Some c) h = shape-of r d t c (cc)
+shape r true (Ok t) d None h = absurd (let z : ◌≡◌ {A = ℕ} 0 1 = cc in omega arith)
+shape r true (Err TypeError.IllTyped) d c h = absurd (let z : ◌≡◌ {A = ℕ} 0 1 = cc in omega arith)
 shape r false t d c h = absurd (let z : ◌≡◌ {A = ℕ} 0 1 = cc in omega arith)
 
 -- ---- what making it leaves
@@ -218,7 +228,7 @@ module _ (c : Context) (r k n : ℕ) (row m₀ : List ℕ)
   count : length (take n row) ≡ n
   count = length-take-le n row (omega (arith, few))
 
-  nothing-made : (x : Made) → ((y : Candidate) → x ≡ Made.Candidate y → ⊥)
+  nothing-made : (x : Result Candidate NotMade) → ((y : Candidate) → x ≡ Ok y → ⊥)
       → ((pol : List ℕ) → made_seen pol m₀ x ≡ stands_for (Thresh k (fragments (seen_all pol m₀ (take n row)))) x)
       → x ≡ thresh_at c m₀ r k n (take n row) → MakesThresh c r k n row m₀ m₀ x
   nothing-made x never stands-so is =
@@ -235,21 +245,26 @@ module _ (c : Context) (r k n : ℕ) (row m₀ : List ℕ)
         offers = λ y same. absurd (never y same);
       }
 
-  pub passed_over_lem : {x : Made} → x ≡ thresh_at c m₀ r k n (take n row) → x ≡ Made.PassedOver → MakesThresh c r k n row m₀ m₀ Made.PassedOver
-  unfolding stands_for
-  passed_over_lem is over =
-      nothing-made Made.PassedOver (λ y same. let z : ◌≡◌ {A = ℕ} 0 1 = cc in omega arith) (λ pol. refl) (sym over ∙ is)
+  -- the row that is looked at has n nodes
+  at-n : {x : Result Candidate NotMade} → x ≡ thresh_at c m₀ r k (length (take n row)) (take n row) → x ≡ thresh_at c m₀ r k n (take n row)
+  at-n is = is ∙ ap (λ (n' : ℕ). thresh_at c m₀ r k n' (take n row)) count
 
-  pub missing : {x : Made} → x ≡ thresh_at c m₀ r k n (take n row) → x ≡ Made.Missing → MakesThresh c r k n row m₀ m₀ Made.Missing
+  pub not-made : {x : Result Candidate NotMade} {e : NotMade} → x ≡ thresh_at c m₀ r k (length (take n row)) (take n row) → x ≡ Err e → MakesThresh c r k n row m₀ m₀ (Err e)
   unfolding stands_for
-  missing is over = nothing-made Made.Missing (λ y same. let z : ◌≡◌ {A = ℕ} 0 1 = cc in omega arith) (λ pol. refl) (sym over ∙ is)
+  not-made {e = e} is over =
+      nothing-made (Err e) (λ y same. let z : ◌≡◌ {A = ℕ} 0 1 = cc in omega arith)
+      (λ pol. told pol (Thresh k (fragments (seen_all pol m₀ (take n row)))) e) (sym over ∙ at-n is)
+    where
+      told : (pol : List ℕ) (f : Fragment) (e : NotMade) → made_seen pol m₀ (Err e) ≡ stands_for f (Err e)
+      told pol f NotMade.PassedOver = refl
+      told pol f NotMade.Missing = refl
 
-  module _ {x : Made} (y : Candidate) (is : x ≡ thresh_at c m₀ r k n (take n row)) (made : x ≡ Made.Candidate y) (m : List ℕ) (number : ℕ)
+  module _ {x : Result Candidate NotMade} (y : Candidate) (is : x ≡ thresh_at c m₀ r k (length (take n row)) (take n row)) (made : x ≡ Ok y) (m : List ℕ) (number : ℕ)
       (one : OneRow m₀ m row number) where
     shaped : Shape r (threshold k (exts_of m₀ (take n row))) y
     shaped =
         shape r (from_ast c 0 (threshold k (exts_of m₀ (take n row)))) (type.threshold k (types_of m₀ (take n row)))
-        (threshold k (exts_of m₀ (take n row))) (cost.threshold k n (costs_of m₀ (take n row))) (sym is ∙ made)
+        (threshold k (exts_of m₀ (take n row))) (cost.threshold k n (costs_of m₀ (take n row))) (sym (at-n is) ∙ made)
 
     rowed : with_row y number ≡ candidate thresh_kind r number 0 y.ty y.ext y.cost
     rowed = ap (λ (z : Candidate). with_row z number) shaped.is
@@ -279,14 +294,14 @@ module _ (c : Context) (r k n : ℕ) (row m₀ : List ℕ)
         length-exts [] = refl
         length-exts (e ∷ l) = ap suc (length-exts l)
 
-    pub thresh-made : {z : Candidate} → z ≡ with_row y number → MakesThresh c r k n row m₀ m (Made.Candidate z)
+    pub thresh-made : {z : Candidate} → z ≡ with_row y number → MakesThresh c r k n row m₀ m (Ok z)
     unfolding stands_for seen_as
     thresh-made same =
         rw same
         (record {
           says = λ pol same-k same-n.
               ap (λ (f : Fragment). definition.made (definition.candidate f y.ty y.ext y.cost)) (tree pol same-k same-n)
-              ∙ ap (stands_for (Thresh k (fragments (seen_all pol m₀ (take n row))))) (sym made ∙ is)
+              ∙ ap (stands_for (Thresh k (fragments (seen_all pol m₀ (take n row))))) (sym made ∙ at-n is)
               ∙ at_seen pol m₀ c r k n (take n row) below count;
           holds = one.holds;
           grows = one.grows;
@@ -296,5 +311,5 @@ module _ (c : Context) (r k n : ℕ) (row m₀ : List ℕ)
           offers = λ z is. subst (Offerable m) (made-same (with_row y number) z is) offerable;
         })
       where
-        made-same : (a b : Candidate) → Made.Candidate a ≡ Made.Candidate b → a ≡ b
+        made-same : (a b : Candidate) → ◌≡◌ {A = Result Candidate NotMade} (Ok a) (Ok b) → a ≡ b
         made-same a b h = cc

@@ -1,7 +1,6 @@
 -- The cheapest entry of a remembered table that suits, from `best` and `best_t` in policy/compiler.rs, by the definition (definition,
 -- specs/Search.antt: cheapest) on what the entries stand for. Assumes nothing.
-use Rattle.std.specs.Prelude.{Bool, cond, ◌&&◌, List, ◌≡◌, ℕ, ◌<◌}
-use Rattle.std.proofs.Math.Option.{Option, none, some}
+use Rattle.std.specs.Prelude.{Bool, cond, ◌&&◌, List, ◌≡◌, ℕ, ◌<◌, Option, None, Some}
 use Rattle.costs.specs.declared.Price.{Price}
 use Rattle.costs.specs.Price.{at_most}
 use Rattle.correctness.specs.declared.Base.{Base}
@@ -18,9 +17,6 @@ use Rattle.nodes.specs.Words.{node_at}
 use Rattle.nodes.specs.Views.{seen}
 use Rattle.search_state.specs.State.{slot_table}
 use Rattle.choice.specs.declared.Want.{Want}
-use Rattle.choice.specs.declared.Want.TheVariants as Want
-use Rattle.choice.specs.declared.Chosen.{Chosen}
-use Rattle.choice.specs.declared.Chosen.TheVariants.{At, Missing}
 
 -- which entries suit: of a Thresh's child as E and as W, and of the root
 abbrev pub suits_want : Want → Candidate → Bool
@@ -28,14 +24,14 @@ suits_want Want.E x = suits_thresh B x
 suits_want Want.W x = suits_thresh W x
 suits_want Want.Root x = is_base_b x
 
-abbrev pub chosen_seen : (pol m : List ℕ) → Chosen → Option Candidate
-chosen_seen pol m (At e) = some (seen pol m e)
-chosen_seen pol m Missing = none
+abbrev pub chosen_seen : (pol m : List ℕ) → Option ℕ → Option Candidate
+chosen_seen pol m (Some e) = Some (seen pol m e)
+chosen_seen pol m None = None
 
 -- the choice from table s at two probabilities
-pub record Chooses (m : List ℕ) (s : ℕ) (p : Probs) (want : Want) (r : Chosen) : Type 0 where
+pub record Chooses (m : List ℕ) (s : ℕ) (p : Probs) (want : Want) (r : Option ℕ) : Type 0 where
   pub says : (pol : List ℕ) → cheapest p (suits_want want) (slot_table pol m s) ≡ chosen_seen pol m r
-  pub there : (e : ℕ) → r ≡ At e → e < node_count m
+  pub there : (e : ℕ) → r ≡ Some e → e < node_count m
 
 -- ---- the same of the numbers of nodes
 
@@ -51,9 +47,9 @@ abbrev pub price_at : List ℕ → Probs → ℕ → Price
 price_at m p e = code.cost_at (node_at m e) p.sat p.dissat
 
 -- an entry before others of which the best is known
-abbrev pub cheaper_at : List ℕ → Probs → ℕ → Chosen → Chosen
-cheaper_at m p e Missing = At e
-cheaper_at m p e (At y) = cond (at_most (price_at m p e) (price_at m p y)) (At e) (At y)
+abbrev pub cheaper_at : List ℕ → Probs → ℕ → Option ℕ → Option ℕ
+cheaper_at m p e None = Some e
+cheaper_at m p e (Some y) = cond (at_most (price_at m p e) (price_at m p y)) (Some e) (Some y)
 
-abbrev pub next_at : List ℕ → Probs → Want → ℕ → Chosen → Chosen
+abbrev pub next_at : List ℕ → Probs → Want → ℕ → Option ℕ → Option ℕ
 next_at m p want e best = cond (suits_type want (node_at m e).ty) (cheaper_at m p e best) best

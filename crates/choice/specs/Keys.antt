@@ -1,7 +1,6 @@
 -- A Thresh all of whose children are keys, and its Multi or MultiA, from the Thresh of `best_compilations` in policy/compiler.rs, by the
 -- definition (definition, specs/Search.antt: keys_of, and specs/Candidates.antt: multi). Assumes nothing.
-use Rattle.std.specs.Prelude.{Bool, true, false, List, map, ◌≡◌, ℕ, ◌≤◌, length}
-use Rattle.std.proofs.Math.Option.{Option, none, some}
+use Rattle.std.specs.Prelude.{Bool, true, false, List, map, ◌≡◌, ℕ, ◌≤◌, length, Option, None, Some}
 use Rattle.contexts.specs.declared.Context.{Context}
 use Rattle.policies.specs.Policy.{Policy, Policies, to_list, Thresh}
 use Rattle.policies.specs.Forms.{number_of}
@@ -13,8 +12,8 @@ use Rattle.nodes.specs.Views.{offered}
 use Rattle.nodes.specs.Offers.{Offerable}
 
 abbrev pub keys_if : Bool → Policies → Option (List ℕ)
-keys_if true xs = some (map number_of (to_list xs))
-keys_if false xs = none
+keys_if true xs = Some (map number_of (to_list xs))
+keys_if false xs = None
 
 -- whether the children of a Thresh are keys
 pub record AllKeys (q : Policy) (r : Bool) : Type 0 where

@@ -19,12 +19,12 @@ ghost use Rattle.choice.specs.Arranged.{gain_at, Gains, Arranges};
 ghost use Rattle.choice.specs.Keys.{AllKeys, MultiOf};
 ghost use Rattle.choice.specs.Threshes.{types_of, exts_of, costs_of, thresh_with, thresh_at, with_row, MakesThresh};
 
-use candidates::{Candidate, Made};
+use candidates::{Candidate, NotMade};
 use contexts::Context;
 use correctness::Base;
-use costs::{Cost, Costed, DissatProb, Price};
+use costs::{Cost, Price};
 use figures::ExtData;
-use types::{Type, TypeResult};
+use types::Type;
 
 // What an entry is wanted for: as the E or as the W of a Thresh's child, or for the root.
 #[derive(Clone, Copy)]
@@ -32,13 +32,6 @@ pub enum Want {
     E,
     W,
     Root,
-}
-
-// The node of the entry that is chosen, or that none suits.
-#[derive(Clone, Copy)]
-pub enum Chosen {
-    At(u16),
-    Missing,
 }
 
 // The kind of a policy that is a key, and that of a fragment that is a Thresh.
@@ -51,22 +44,11 @@ const NO_CHILD: u16 = 0;
 
 const NO_KIND: u16 = 0;
 
-// Whether both hold.
-fn both(a: bool, b: bool) -> bool
-    ensures { result ≡ a && b }
-{
-    a && b
-}
-
 // Whether a type is of this base, u and e.
 fn suits_as(base: Base, ty: Type) -> bool
     ensures { result ≡ suits_as base ty }
 {
-    let corr = ty.corr;
-    let mall = ty.mall;
-    let own = corr.base;
-    let dissat = mall.dissat;
-    both(own.same(base), both(corr.unit, dissat.is_unique()))
+    ty.corr.base.same(base) && ty.corr.unit && ty.mall.dissat.is_unique()
 }
 
 // Whether a type suits what is wanted.
@@ -76,50 +58,46 @@ fn suits(want: Want, ty: Type) -> bool
     match want {
         Want::E => suits_as(Base::B, ty),
         Want::W => suits_as(Base::W, ty),
-        Want::Root => {
-            let corr = ty.corr;
-            let base = corr.base;
-            base.same(Base::B)
-        }
+        Want::Root => ty.corr.base.same(Base::B),
     }
 }
 
 // What node e costs at these probabilities.
-pub fn price(work: &[u64], e: u16, sat: f64, dissat: DissatProb) -> Price
+pub fn price(work: &[u64], e: u16, sat: f64, dissat: Option<f64>) -> Price
     requires { length work.now ≡ work_words }
     ensures { result ≡ price_at work.now (probs sat dissat) e }
 {
-    let x = nodes::node(work, e);
-    x.cost_at(sat, dissat)
+    nodes::node(work, e).cost_at(sat, dissat)
 }
 
 // The cheaper of entry e and the best of those after it, e where they cost the same.
-fn cheaper(work: &[u64], e: u16, best: Chosen, sat: f64, dissat: DissatProb) -> Chosen
+fn cheaper(work: &[u64], e: u16, best: Option<u16>, sat: f64, dissat: Option<f64>) -> Option<u16>
     requires { length work.now ≡ work_words }
     ensures { result ≡ cheaper_at work.now (probs sat dissat) e best }
 {
     match best {
-        Chosen::Missing => Chosen::At(e),
-        Chosen::At(y) => {
+        None => Some(e),
+        Some(y) => {
             let own = price(work, e, sat, dissat);
             let other = price(work, y, sat, dissat);
-            if own.at_most(other) {
-                Chosen::At(e)
-            } else {
-                Chosen::At(y)
-            }
+            Some(if own.at_most(other) { e } else { y })
         }
     }
 }
 
 // The best of entry e and those after it.
-fn next(work: &[u64], e: u16, best: Chosen, sat: f64, dissat: DissatProb, want: Want) -> Chosen
+fn next(
+    work: &[u64],
+    e: u16,
+    best: Option<u16>,
+    sat: f64,
+    dissat: Option<f64>,
+    want: Want,
+) -> Option<u16>
     requires { length work.now ≡ work_words }
     ensures { result ≡ next_at work.now (probs sat dissat) want e best }
 {
-    let x = nodes::node(work, e);
-    let ty = x.ty;
-    if suits(want, ty) {
+    if suits(want, nodes::type_at(work, e)) {
         cheaper(work, e, best, sat, dissat)
     } else {
         best
@@ -127,14 +105,12 @@ fn next(work: &[u64], e: u16, best: Chosen, sat: f64, dissat: DissatProb, want: 
 }
 
 // The cheapest entry of table s that suits, the first of them on a tie.
-pub fn choose(work: &[u64], s: u16, sat: f64, dissat: DissatProb, want: Want) -> Chosen
+pub fn choose(work: &[u64], s: u16, sat: f64, dissat: Option<f64>, want: Want) -> Option<u16>
     requires { Kept work.now × ((s < table_count work.now) × AllBelow (node_count work.now) (slot_at work.now s).entries) }
     ensures { Chooses work.now s (probs sat dissat) want result }
 {
-    let mut best = Chosen::Missing;
-    let mut i = cache::length_of(work, s);
-    while 0 < i {
-        i -= 1;
+    let mut best = None;
+    for i in (0..cache::length_of(work, s)).rev() {
         let e = cache::entry(work, s, i);
         best = next(work, e, best, sat, dissat, want);
     }
@@ -142,7 +118,7 @@ pub fn choose(work: &[u64], s: u16, sat: f64, dissat: DissatProb, want: Want) ->
 }
 
 // By how much node e costs more than node w.
-fn gain(work: &[u64], e: u16, w: u16, sat: f64, dissat: DissatProb) -> f64
+fn gain(work: &[u64], e: u16, w: u16, sat: f64, dissat: Option<f64>) -> f64
     requires { length work.now ≡ work_words }
     ensures { result ≡ gain_at work.now (probs sat dissat) e w }
 {
@@ -158,23 +134,19 @@ pub fn most_gaining(
     ws: [u16; 16],
     n: usize,
     sat: f64,
-    dissat: DissatProb,
+    dissat: Option<f64>,
 ) -> usize
     requires { (length work.now ≡ work_words) × ((n ≤ 16) × (AllBelow (node_count work.now) (take n es) × AllBelow (node_count work.now) (take n ws))) }
     ensures { Gains work.now (probs sat dissat) es ws n result }
 {
     let mut best: usize = 0;
     let mut least: f64 = 1.0 / 0.0;
-    let mut i: usize = 0;
-    while i < n {
-        let e = es[i];
-        let w = ws[i];
-        let d = gain(work, e, w, sat, dissat);
+    for i in 0..n {
+        let d = gain(work, es[i], ws[i], sat, dissat);
         if d < least {
             least = d;
             best = i;
         }
-        i += 1;
     }
     best
 }
@@ -184,10 +156,9 @@ pub fn arrange(es: [u16; 16], ws: [u16; 16], n: usize, gaining: usize) -> [u16; 
     requires { (n ≤ 16) × (gaining < n) }
     ensures { Arranges es ws n gaining result }
 {
-    let first: usize = 0;
     let mut row = ws;
-    row[gaining] = ws[first];
-    row[first] = es[gaining];
+    row[gaining] = ws[0];
+    row[0] = es[gaining];
     row
 }
 
@@ -196,14 +167,11 @@ pub fn all_keys(pol: &[u64], r: usize, n: usize) -> bool
     requires { Good pol.now × ((r < 64) × ((kind_of (policy_at pol.now r) ≡ 12) × (n ≡ length (children_of (policy_at pol.now r))))) }
     ensures { AllKeys (policy_at pol.now r) result }
 {
-    let mut i: usize = 0;
-    while i < n {
+    for i in 0..n {
         let c = policies::child(pol, r, i);
-        let head = policies::head_of(pol, c);
-        if head.kind != KEY {
+        if policies::head_of(pol, c).kind != KEY {
             return false;
         }
-        i += 1;
     }
     true
 }
@@ -219,116 +187,91 @@ pub fn multi_of(context: Context, r: u16, k: u16, n: u16) -> Candidate
     }
 }
 
-// The types of the first n nodes of a row.
-fn types_of(work: &[u64], row: [u16; 16], n: usize) -> [Type; 16]
-    requires { (length work.now ≡ work_words) × (n ≤ 16) }
-    ensures { take n result ≡ types_of work.now (take n row) }
+// The types of the nodes of a row.
+fn types_of(work: &[u64], row: &[u16]) -> [Type; 16]
+    requires { (length work.now ≡ work_words) × (length row.now ≤ 16) }
+    ensures { take (length row.now) result ≡ types_of work.now row.now }
 {
-    let blank = Type::of_false();
-    let mut types = [blank; 16];
-    let mut i: usize = 0;
-    while i < n {
-        let e = row[i];
-        let x = nodes::node(work, e);
-        let ty = x.ty;
-        types[i] = ty;
-        i += 1;
+    let mut types = [Type::of_false(); 16];
+    for (i, e) in row.iter().enumerate() {
+        types[i] = nodes::type_at(work, *e);
     }
     types
 }
 
 // Their figures.
-fn exts_of(work: &[u64], row: [u16; 16], n: usize) -> [ExtData; 16]
-    requires { (length work.now ≡ work_words) × (n ≤ 16) }
-    ensures { take n result ≡ exts_of work.now (take n row) }
+fn exts_of(work: &[u64], row: &[u16]) -> [ExtData; 16]
+    requires { (length work.now ≡ work_words) × (length row.now ≤ 16) }
+    ensures { take (length row.now) result ≡ exts_of work.now row.now }
 {
-    let blank = ExtData::FALSE();
-    let mut exts = [blank; 16];
-    let mut i: usize = 0;
-    while i < n {
-        let e = row[i];
-        let x = nodes::node(work, e);
-        let ext = x.ext;
-        exts[i] = ext;
-        i += 1;
+    let mut exts = [ExtData::FALSE(); 16];
+    for (i, e) in row.iter().enumerate() {
+        exts[i] = nodes::node(work, *e).ext;
     }
     exts
 }
 
 // Their costs.
-fn costs_of(work: &[u64], row: [u16; 16], n: usize) -> [Cost; 16]
-    requires { (length work.now ≡ work_words) × (n ≤ 16) }
-    ensures { take n result ≡ costs_of work.now (take n row) }
+fn costs_of(work: &[u64], row: &[u16]) -> [Cost; 16]
+    requires { (length work.now ≡ work_words) × (length row.now ≤ 16) }
+    ensures { take (length row.now) result ≡ costs_of work.now row.now }
 {
-    let blank = Cost::FALSE();
-    let mut costs = [blank; 16];
-    let mut i: usize = 0;
-    while i < n {
-        let e = row[i];
-        let x = nodes::node(work, e);
-        let cost = x.cost;
-        costs[i] = cost;
-        i += 1;
+    let mut costs = [Cost::FALSE(); 16];
+    for (i, e) in row.iter().enumerate() {
+        costs[i] = nodes::node(work, *e).cost;
     }
     costs
 }
 
-// The Thresh of given figures, with no row yet.
-fn thresh_with(ext: ExtData, work: &[u64], r: u16, k: u16, n: u16, row: [u16; 16]) -> Made
-    requires { (length work.now ≡ work_words) × (n ≤ 16) }
-    ensures { result ≡ thresh_with ext work.now r k n (take n row) }
+// The Thresh of given figures, over the nodes of a row, which is not stored yet.
+fn thresh_with(
+    ext: ExtData,
+    work: &[u64],
+    r: u16,
+    k: u16,
+    row: &[u16],
+) -> Result<Candidate, NotMade>
+    requires { (length work.now ≡ work_words) × (length row.now ≤ 16) }
+    ensures { result ≡ thresh_with ext work.now r k (length row.now) row.now }
 {
-    let count = n as usize;
-    let types = types_of(work, row, count);
-    match Type::threshold(k as usize, count, types) {
-        TypeResult::IllTyped => Made::PassedOver,
-        TypeResult::Ok(ty) => {
-            let costs = costs_of(work, row, count);
-            match Cost::threshold(k, n, costs) {
-                Costed::Missing => Made::Missing,
-                Costed::Cost(cost) => Made::Candidate(Candidate {
-                    kind: THRESH,
-                    first: r,
-                    second: NO_CHILD,
-                    third: NO_CHILD,
-                    ty,
-                    ext,
-                    cost,
-                }),
-            }
-        }
-    }
+    let Ok(ty) = Type::threshold(k as usize, row.len(), types_of(work, row)) else {
+        return Err(NotMade::PassedOver);
+    };
+    let cost = Cost::threshold(k, row.len() as u16, costs_of(work, row)).ok_or(NotMade::Missing)?;
+    Ok(Candidate {
+        kind: THRESH,
+        first: r,
+        second: NO_CHILD,
+        third: NO_CHILD,
+        ty,
+        ext,
+        cost,
+    })
 }
 
-// The Thresh of k of the first n nodes of a row, with no row yet, unless `from_ast` does not take it.
-fn thresh_of(context: Context, work: &[u64], r: u16, k: u16, n: u16, row: [u16; 16]) -> Made
-    requires { Holds work.now × ((1 ≤ n) × ((n ≤ 16) × AllBelow (node_count work.now) (take n row))) }
-    ensures { result ≡ thresh_at context work.now r k n (take n row) }
+// The Thresh of k of the nodes of a row, which is not stored yet, unless `from_ast` does not take it.
+fn thresh_of(
+    context: Context,
+    work: &[u64],
+    r: u16,
+    k: u16,
+    row: &[u16],
+) -> Result<Candidate, NotMade>
+    requires { Holds work.now × ((1 ≤ length row.now) × ((length row.now ≤ 16) × AllBelow (node_count work.now) row.now)) }
+    ensures { result ≡ thresh_at context work.now r k (length row.now) row.now }
 {
-    let exts = exts_of(work, row, n as usize);
-    let ext = thresholds::threshold(k, n, exts);
+    let ext = thresholds::threshold(k, row.len() as u16, exts_of(work, row));
     if figures::from_ast(context, NO_KIND, ext) {
-        return thresh_with(ext, work, r, k, n, row);
+        return thresh_with(ext, work, r, k, row);
     }
-    Made::PassedOver
+    Err(NotMade::PassedOver)
 }
 
 // A candidate with its row.
 fn with_row(x: Candidate, row: u16) -> Candidate
     ensures { result ≡ with_row x row }
 {
-    let ty = x.ty;
-    let ext = x.ext;
-    let cost = x.cost;
-    Candidate {
-        kind: x.kind,
-        first: x.first,
-        second: row,
-        third: x.third,
-        ty,
-        ext,
-        cost,
-    }
+    Candidate { second: row, ..x }
 }
 
 // The Thresh of record r, of k of the first n nodes of a row: where it is made, its row is stored.
@@ -339,16 +282,11 @@ pub fn thresh_made(
     k: u16,
     n: u16,
     row: [u16; 16],
-) -> Made
+) -> Result<Candidate, NotMade>
     requires { Holds work.old × ((row_count work.old < max_rows) × ((1 ≤ k) × ((k ≤ n) × ((n ≤ 16) × AllBelow (node_count work.old) (take n row))))) }
     ensures { MakesThresh context r k n row work.old work.new result }
 {
-    match thresh_of(context, work, r, k, n, row) {
-        Made::PassedOver => Made::PassedOver,
-        Made::Missing => Made::Missing,
-        Made::Candidate(x) => {
-            let second = nodes::add_row(work, row);
-            Made::Candidate(with_row(x, second))
-        }
-    }
+    let x = thresh_of(context, work, r, k, &row[..n as usize])?;
+    let second = nodes::add_row(work, row);
+    Ok(with_row(x, second))
 }

@@ -1,20 +1,18 @@
 -- Compile is the choice and the writing in a row: specs/Laws.antt. Assumes nothing.
-use mathlib.Core.Bool.{Bool, true, false, cond, ◌&&◌}
-use mathlib.Core.List.{List, [], ◌++◌}
-use mathlib.Core.Option.{Option, none, some}
+use mathlib.Core.Bool.{Bool, true, false, cond}
+use mathlib.Core.List.{List, []}
+use Rattle.std.specs.Prelude.{Option, None, Some}
 use mathlib.Core.Path.{◌≡◌, refl, sym, ap, subst, ◌∙◌}
-use Prim.Native.Nat.{ℕ, ◌+◌, ◌*◌, ◌≤◌}
+use Prim.Native.Nat.{ℕ, ◌+◌, ◌≤◌}
 use native.Mathlib.Omega.{arith}
-use borrow.Author.Tests.{le-leb, leb-true, eqb-true}
+use borrow.Author.Tests.{le-leb, leb-true}
 use lib.Dec.{leb, eqb}
-use lib.ListN.{length, drop, replicate}
+use lib.ListN.{length, replicate}
 use Rattle.words.specs.Memory.{zeroed}
 use Rattle.contexts.specs.declared.Context.{Context}
 use Rattle.costs.specs.declared.Price.{Price}
-use Rattle.costs.specs.Price.{cost_bits, never_flag}
 use Rattle.memory.specs.Layout.{work_words}
 use Rattle.trees.specs.Fragment.{Fragment}
-use Rattle.trees.specs.Reading as trees
 use Rattle.writing.specs.Writing.{size, bytes_of_tree}
 use Rattle.writing.specs.WellFormed.{AllBelow, WellFormed}
 use Rattle.policies.specs.Policy.{Policy}
@@ -22,15 +20,15 @@ use Rattle.policies.specs.Reading as Reading
 use Rattle.policies.specs.Reading.{read_policy}
 use Rattle.definition.specs.Candidates.{Candidate}
 use Rattle.definition.specs.Tables.{cost_at}
-use Rattle.definition.specs.Refusals.{State, state, Res, done, refused, BadWork, OutputTooSmall}
-use Rattle.definition.specs.Compile.{Outcome, compiled, refused_with, max_records, root_probs, best_compilation, fitting, outcome, compile_policy}
+use Rattle.definition.specs.Refusals.{state, Res, BadWork, OutputTooSmall}
+use Rattle.definition.specs.Compile.{Outcome, compiled, refused_with, max_records, root_probs, fitting, outcome, compile_policy}
 use Rattle.definition.specs.Compile.{compile_read, compile_in, context_of, compile}
 use Rattle.definition_laws.specs.FormedPolicy.{FormedPolicy}
 use Rattle.definition_laws.specs.Laws.{Gives, refuses, gives}
 use Rattle.definition_laws.proofs.Compiling.{RootWell, best_compilation-keeps, start-proper, compile-is-sound}
 use Rattle.definition_laws.proofs.Reading.{reads-formed}
 use Rattle.chosen.specs.Form.{tree_bytes, most_bytes, holding}
-use Rattle.chosen.specs.Chosen.{chosen_of, is_written}
+use Rattle.chosen.specs.Chosen.{chosen_of}
 use Rattle.chosen.proofs.Bounds.{tree-bytes}
 use Rattle.chosen.proofs.Written.{written-in-order}
 use Rattle.chosen.proofs.Holding.{chosen-again, holding-long}
@@ -79,19 +77,19 @@ compile-in-a-row context work_fits policy room below = by-context (context_of co
     by-work c false = refl
 
     by-context : (o : Option Context) → compile_in context work_fits room policy o ≡ in_a_row room (compile_in context work_fits most_bytes policy o)
-    by-context none = refl
-    by-context (some c) = by-work c work_fits
+    by-context None = refl
+    by-context (Some c) = by-work c work_fits
 
 -- ---- what was chosen is read
 
 -- the bytes that compile gives write a tree
 given-is-read : (context : ℕ) (work_fits : Bool) (policy : List ℕ) (room : ℕ) (tree : List ℕ) (price : Price) (used : ℕ) → AllBelow 256 policy
-    → compile context work_fits policy room ≡ compiled tree price used → chosen_of (holding tree) ≡ some tree
+    → compile context work_fits policy room ≡ compiled tree price used → chosen_of (holding tree) ≡ Some tree
 given-is-read context work_fits policy room tree price used below e =
     let sound = (compile-is-sound context work_fits policy room tree price used below e).2 in
     let bytes = tree-bytes sound.tree sound.formed in
     let fits : length (bytes_of_tree sound.tree) ≤ tree_bytes = omega (arith, bytes.1, sound.within) in
-    subst (λ (b : List ℕ). chosen_of (holding b) ≡ some b) (sym sound.written)
+    subst (λ (b : List ℕ). chosen_of (holding b) ≡ Some b) (sym sound.written)
     (chosen-again (bytes_of_tree sound.tree) bytes.0 fits (written-in-order sound.tree sound.formed sound.within))
 
 pub chosen-is-read : ChosenIsRead
@@ -110,7 +108,7 @@ module _ (context : ℕ) (policy work out : List ℕ) (below : AllBelow 256 poli
   module _ (first bytes cost never nodes : ℕ) (between : List ℕ) (p : ChoosePromise context policy work first bytes cost never nodes between)
       (number : ℕ) (left : List ℕ) (written : ℕ) (after : List ℕ) (w : WritePromise out between number left written after)
       (tree : List ℕ) (price : Price) (used : ℕ) (e : choice context policy work ≡ compiled tree price used) where
-    held : chosen_of between ≡ some tree
+    held : chosen_of between ≡ Some tree
     held = chosen-is-read context policy work first bytes cost never nodes between below p tree price used e
 
     same_length : length between ≡ length work

@@ -1,9 +1,9 @@
 -- A memory that holds bytes is the one that holds them, and bytes write one tree: specs/Laws.antt. Assumes nothing.
 use mathlib.Core.Bool.{Bool, true, false, ◌&&◌}
 use mathlib.Core.List.{List, [], ◌∷◌, ◌++◌}
-use mathlib.Core.Option.{some}
+use Rattle.std.specs.Prelude.{Some}
 use mathlib.Core.Path.{◌≡◌, refl, sym, ap, ◌∙◌}
-use Prim.Native.Nat.{ℕ, suc, ◌*◌, ◌-◌, ◌<◌, ◌≤◌}
+use Prim.Native.Nat.{ℕ, ◌≤◌}
 use native.Mathlib.Omega.{arith}
 use borrow.Author.Tests.{eqb-true, leb-true}
 use lib.Dec.{eqb, leb}
@@ -13,7 +13,6 @@ use Rattle.memory.specs.Layout.{work_words, word_at}
 use Rattle.words.specs.Bytes.{little, bytes_of}
 use Rattle.words.proofs.Bytes.{length-bytes}
 use Rattle.records.proofs.Forms.{and_left, and_right}
-use Rattle.trees.specs.Fragment.{Fragment}
 use Rattle.trees.specs.Reading.{done}
 use Rattle.trees.specs.Tree.{tree_of}
 use Rattle.writing.specs.WellFormed.{AllBelow}
@@ -43,7 +42,7 @@ record Held (m b : List ℕ) : Type 0 where
   few : word_at m 0 ≤ tree_bytes
   blank : all_zero (drop (word_at m 0) (room_in m)) ≡ true
 
-held : (m b : List ℕ) → chosen_of m ≡ some b → Held m b
+held : (m b : List ℕ) → chosen_of m ≡ Some b → Held m b
 unfolding chosen_of holds_tree
 held m b e = by-test (eqb (length m) work_words && leb (word_at m 0) tree_bytes && all_zero (drop (word_at m 0) (room_in m)) && is_written (held_in m)) refl e
   where
@@ -56,7 +55,7 @@ held m b e = by-test (eqb (length m) work_words && leb (word_at m 0) tree_bytes 
     three : Bool
     three = all_zero (drop (word_at m 0) (room_in m))
 
-    by-test : (t : Bool) → (one && two && three && is_written (held_in m)) ≡ t → if_so t (held_in m) ≡ some b → Held m b
+    by-test : (t : Bool) → (one && two && three && is_written (held_in m)) ≡ t → if_so t (held_in m) ≡ Some b → Held m b
     by-test true h e =
         let all = and_left (one && two && three) (is_written (held_in m)) h in
         let both = and_left (one && two) three all in

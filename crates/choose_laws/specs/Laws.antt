@@ -1,7 +1,6 @@
 -- What is proved of the choice and the writing (document 02, R-7): every chosen tree has room, what the choice leaves is read again as the bytes that
 -- compile writes, and compile is the two in a row. Policies and memories are lists of bytes and of words, whatever their length. Assumes nothing.
-use Rattle.std.specs.Prelude.{Bool, cond, List, ◌≡◌, ℕ, zero, suc, ◌≤◌, leb, length}
-use Rattle.std.proofs.Math.Option.{some}
+use Rattle.std.specs.Prelude.{Bool, cond, List, ◌≡◌, ℕ, zero, suc, ◌≤◌, leb, length, Some}
 use Rattle.costs.specs.declared.Price.{Price}
 use Rattle.trees.specs.Fragment.{Fragment}
 use Rattle.trees.specs.Reading.{max_records}
@@ -19,7 +18,7 @@ RoomForAll = (f : Fragment) → WellFormed f → size f ≤ max_records → leng
 
 -- no two memories hold the same bytes: a memory of words that holds some is the one of their form
 abbrev pub OneMemory : Type 0
-OneMemory = (m b : List ℕ) → AllBelow 18446744073709551616 m → chosen_of m ≡ some b → m ≡ holding b
+OneMemory = (m b : List ℕ) → AllBelow 18446744073709551616 m → chosen_of m ≡ Some b → m ≡ holding b
 
 -- and no bytes, so no memory, stand for two trees
 abbrev pub OneTree : Type 0
@@ -43,7 +42,7 @@ abbrev pub ChosenIsRead : Type 0
 ChosenIsRead =
     (context : ℕ) (policy work : List ℕ) (number bytes cost never nodes : ℕ) (after : List ℕ) → AllBelow 256 policy
     → ChoosePromise context policy work number bytes cost never nodes after
-    → (tree : List ℕ) (price : Price) (used : ℕ) → choice context policy work ≡ compiled tree price used → chosen_of after ≡ some tree
+    → (tree : List ℕ) (price : Price) (used : ℕ) → choice context policy work ≡ compiled tree price used → chosen_of after ≡ Some tree
 
 -- a result, and 0 where the number is a refusal's
 abbrev pub if_done : (number : ℕ) → ℕ → ℕ

@@ -1,7 +1,7 @@
 -- A memory is filled word by word, and then holds the bytes; and what its tests tell. Assumes nothing.
 use mathlib.Core.Bool.{true, false}
 use mathlib.Core.List.{List, [], ◌∷◌, ◌++◌, append_assoc}
-use mathlib.Core.Option.{none}
+use Rattle.std.specs.Prelude.{None}
 use mathlib.Core.Path.{◌≡◌, refl, sym, ap, ◌∙◌}
 use Prim.Native.Nat.{ℕ, suc, ◌+◌, ◌*◌, ◌-◌, ◌<◌, ◌≤◌}
 use native.Mathlib.Numerals.{add-one}
@@ -79,20 +79,20 @@ module _ (bytes : List ℕ) (n : ℕ) where
 -- ---- a memory that holds no tree
 
 module _ (m : List ℕ) where
-  pub no_length : (length m ≡ work_words → ⊥) → chosen_of m ≡ none
+  pub no_length : (length m ≡ work_words → ⊥) → chosen_of m ≡ None
   unfolding chosen_of holds_tree
   no_length f = rw (ne_eqb (length m) work_words f)
 
   module _ (long : length m ≡ work_words) where
-    pub no-count : tree_bytes < word_at m 0 → chosen_of m ≡ none
+    pub no-count : tree_bytes < word_at m 0 → chosen_of m ≡ None
     unfolding chosen_of holds_tree
     no-count h = rw (eq-eqb (length m) work_words long, lt-leb (word_at m 0) tree_bytes h)
 
     module _ (few : word_at m 0 ≤ tree_bytes) where
-      pub no-zeros : all_zero (drop (word_at m 0) (room_in m)) ≡ false → chosen_of m ≡ none
+      pub no-zeros : all_zero (drop (word_at m 0) (room_in m)) ≡ false → chosen_of m ≡ None
       unfolding chosen_of holds_tree
       no-zeros z = rw (eq-eqb (length m) work_words long, le-leb (word_at m 0) tree_bytes few, z)
 
-      pub no-tree : all_zero (drop (word_at m 0) (room_in m)) ≡ true → is_written (held_in m) ≡ false → chosen_of m ≡ none
+      pub no-tree : all_zero (drop (word_at m 0) (room_in m)) ≡ true → is_written (held_in m) ≡ false → chosen_of m ≡ None
       unfolding chosen_of holds_tree
       no-tree z w = rw (eq-eqb (length m) work_words long, le-leb (word_at m 0) tree_bytes few, z, w)

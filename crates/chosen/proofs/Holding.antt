@@ -1,7 +1,7 @@
 -- A memory that holds the bytes of a tree is read again as these bytes, and no other memory holds them. Assumes nothing.
 use mathlib.Core.Bool.{Bool, true, false, ◌&&◌}
 use mathlib.Core.List.{List, [], ◌∷◌, ◌++◌, append_assoc, append-nil}
-use mathlib.Core.Option.{Option, none, some}
+use Rattle.std.specs.Prelude.{Option, None, Some}
 use mathlib.Core.Path.{◌≡◌, refl, sym, ap, subst, ◌∙◌}
 use Prim.Native.Nat.{ℕ, zero, suc, ◌+◌, ◌*◌, ◌-◌, ◌/◌, ◌%◌, ◌^◌, ◌<◌, ◌≤◌}
 use native.Mathlib.Nat.{zero-add}
@@ -152,7 +152,7 @@ bytes-in-words (suc w) b below h =
 -- ---- a memory that holds bytes
 
 pub holds : (m : List ℕ) → length m ≡ work_words → word_at m 0 ≤ tree_bytes → all_zero (drop (word_at m 0) (room_in m)) ≡ true → is_written (held_in m) ≡ true
-    → chosen_of m ≡ some (held_in m)
+    → chosen_of m ≡ Some (held_in m)
 unfolding chosen_of holds_tree
 holds m long few blank writes = rw (eq-eqb (length m) work_words long, le-leb (word_at m 0) tree_bytes few, blank, writes)
 
@@ -179,6 +179,6 @@ module _ (b : List ℕ) (below : AllBelow 256 b) (fits : length b ≤ tree_bytes
   first = refl
 
   -- what a memory holds is read again
-  pub chosen-again : is_written b ≡ true → chosen_of (holding b) ≡ some b
+  pub chosen-again : is_written b ≡ true → chosen_of (holding b) ≡ Some b
   chosen-again writes =
-      holds (holding b) (holding-long b) (omega (arith, first)) nothing-else (ap is_written held-again ∙ writes) ∙ ap some held-again
+      holds (holding b) (holding-long b) (omega (arith, first)) nothing-else (ap is_written held-again ∙ writes) ∙ ap Some held-again

@@ -2,9 +2,9 @@
 use mathlib.Core.Bool.{Bool, true, false}
 use mathlib.Core.List.{List, [], ◌∷◌, ◌++◌}
 use mathlib.Core.Logic.{◌⊎◌, inl, inr}
-use mathlib.Core.Option.{Option, none, some}
+use Rattle.std.specs.Prelude.{Option, None, Some}
 use mathlib.Core.Path.{◌≡◌, refl, sym, ap, subst, ◌∙◌}
-use Prim.Native.Nat.{ℕ, zero, suc, ◌+◌, ◌*◌, ◌-◌, ◌/◌, ◌%◌, ◌<◌, ◌≤◌}
+use Prim.Native.Nat.{ℕ, zero, suc, ◌+◌, ◌*◌, ◌-◌, ◌/◌, ◌%◌, ◌<◌, ◌≤◌, min}
 use native.Mathlib.Numerals.{add-one}
 use native.Mathlib.Omega.{arith}
 use borrow.Author.Tests.{leb-true, leb-false}
@@ -21,10 +21,7 @@ use Rattle.trees.specs.Reading.{max_records}
 use Rattle.chosen.specs.Form.{tree_bytes, bytes_in, room_in}
 use Rattle.chosen.specs.Chosen.{if_so, is_short, same, taking, with_record, in_order, all_zero}
 use Rattle.chosen.specs.Answers.{Leaves, leaves, broken, Reads, reads, stops}
-use Rattle.chosen.specs.declared.Roots.{Roots}
-use Rattle.chosen.specs.declared.Roots.TheVariants as Roots
-use Rattle.chosen.specs.declared.Step.{Step}
-use Rattle.chosen.specs.declared.Step.TheVariants as Step
+use Rattle.chosen.specs.declared.Next.{Next}
 use Rattle.chosen.proofs.Words.{room_whole, drop-in}
 use Rattle.chosen.proofs.Steps.{with-fit, same-short, order-stops}
 use Rattle.chosen.proofs.Records.{take-take, take_part, front-whole, front-few, front-broken}
@@ -45,18 +42,18 @@ module _ {s : List ℕ} {parts : Parts} {kind n : ℕ} (roots : List ℕ) (top o
       let count : length (children_of x.payload) ≡ n = sym (own-children x) in
       with-fit (take top roots) own s short x.fits ∙ rw (long, count, same-children x)
 
-  pub record-taken : last ≡ true → top - n < length roots → with_record (take top roots) own s ≡ some (take (top - n + 1) (set roots (top - n) own))
+  pub record-taken : last ≡ true → top - n < length roots → with_record (take top roots) own s ≡ Some (take (top - n + 1) (set roots (top - n) own))
   record-taken e h =
       with-last ∙ ap (λ (t : Bool). if_so t (take (top - n) (take top roots) ++ (own ∷ []))) e
-      ∙ ap some (ap (λ (l : List ℕ). l ++ (own ∷ [])) (take-take (top - n) top roots (omega arith))
+      ∙ ap Some (ap (λ (l : List ℕ). l ++ (own ∷ [])) (take-take (top - n) top roots (omega arith))
       ∙ sym (take-suc-set roots (top - n) own h)
       ∙ ap (λ (k : ℕ). take k (set roots (top - n) own)) (sym (add-one (top - n))))
 
   pub record-left : last ≡ true → top - n < length roots → top ≤ own → length roots ≡ max_records
-      → Leaves (with_record (take top roots) own s) own (set roots (top - n) own) (Roots.Left (top - n + 1))
+      → Leaves (with_record (take top roots) own s) own (set roots (top - n) own) (Some (top - n + 1))
   record-left e h few all = leaves {top = top - n + 1} (record-taken e h) (omega arith) (length-set roots (top - n) own ∙ all)
 
-  pub record-untaken : last ≡ false → with_record (take top roots) own s ≡ none
+  pub record-untaken : last ≡ false → with_record (take top roots) own s ≡ None
   record-untaken e = with-last ∙ ap (λ (t : Bool). if_so t (take (top - n) (take top roots) ++ (own ∷ []))) e
 
 -- there are as many roots as children
@@ -79,19 +76,19 @@ children-wide x =
     ap (λ (y : Parts). length y.children) x.parts_are
     ∙ length-padded (children_of x.payload) (omega (arith, own-children x, few-children x))
 
-pub left-told : {o : Option (List ℕ)} {own top : ℕ} {roots : List ℕ} {r : Roots} → Leaves o own roots r → r ≡ Roots.Left top
-    → (o ≡ some (take top roots)) × (top ≤ own + 1) × (length roots ≡ max_records)
+pub left-told : {o : Option (List ℕ)} {own top : ℕ} {roots : List ℕ} {r : Option ℕ} → Leaves o own roots r → r ≡ Some top
+    → (o ≡ Some (take top roots)) × (top ≤ own + 1) × (length roots ≡ max_records)
 left-told {o} {own} {top} {roots} (leaves {top = t} is few l) e =
     let same-top : t ≡ top = cc in
-    subst (λ (t : ℕ). (o ≡ some (take t roots)) × (t ≤ own + 1) × (length roots ≡ max_records)) same-top (is, few, l)
+    subst (λ (t : ℕ). (o ≡ Some (take t roots)) × (t ≤ own + 1) × (length roots ≡ max_records)) same-top (is, few, l)
 left-told (broken is l) e = absurd (let z : ◌≡◌ {A = ℕ} 0 1 = cc in omega arith)
 
-pub broken-told : {o : Option (List ℕ)} {own : ℕ} {roots : List ℕ} {r : Roots} → Leaves o own roots r → r ≡ Roots.Broken
-    → (o ≡ none) × (length roots ≡ max_records)
+pub broken-told : {o : Option (List ℕ)} {own : ℕ} {roots : List ℕ} {r : Option ℕ} → Leaves o own roots r → r ≡ None
+    → (o ≡ None) × (length roots ≡ max_records)
 broken-told (leaves is few l) e = absurd (let z : ◌≡◌ {A = ℕ} 0 1 = cc in omega arith)
 broken-told (broken is l) e = (is, l)
 
-pub roots-long : {o : Option (List ℕ)} {own : ℕ} {roots : List ℕ} {r : Roots} → Leaves o own roots r → length roots ≡ max_records
+pub roots-long : {o : Option (List ℕ)} {own : ℕ} {roots : List ℕ} {r : Option ℕ} → Leaves o own roots r → length roots ≡ max_records
 roots-long (leaves is few l) = l
 roots-long (broken is l) = l
 
@@ -99,6 +96,9 @@ roots-long (broken is l) = l
 
 abbrev pub Smaller : (k a b : ℕ) → Type 0
 Smaller k a b = (k ≤ a) × ((k ≤ b) × ((b ≤ a → k ≡ b) × (a ≤ b → k ≡ a)))
+
+pub smaller-is : {k : ℕ} (a b : ℕ) → k ≡ min a b → Smaller k a b
+smaller-is a b e = (omega arith, (omega arith, ((λ h. omega arith), (λ h. omega arith))))
 
 module _ (m bytes : List ℕ) (at n k : ℕ) (whole : length m ≡ work_words) (inside : at < n) (fits : n ≤ tree_bytes) (small : Smaller k (n - at) 136)
     (copied : take k bytes ≡ take k (drop at (room_in m))) where
@@ -120,15 +120,15 @@ module _ (m bytes : List ℕ) (at n k : ℕ) (whole : length m ≡ work_words) (
       let l = leb-false (n - at) 136 b in
       inl ((λ h. omega (arith, rest-long, small.1.0)), small.1.1.0 (omega arith))
 
-  pub none-begins : record_length (take k bytes) ≡ none → (own : ℕ) (roots : List ℕ) (more : ℕ) → in_order more own roots rest ≡ false
+  pub none-begins : record_length (take k bytes) ≡ None → (own : ℕ) (roots : List ℕ) (more : ℕ) → in_order more own roots rest ≡ false
   none-begins e own roots =
-      front-broken k rest own roots some_left (subst (λ (l : List ℕ). record_length l ≡ none) front e) (all-or-most (leb (n - at) 136) refl)
+      front-broken k rest own roots some_left (subst (λ (l : List ℕ). record_length l ≡ None) front e) (all-or-most (leb (n - at) 136) refl)
 
-  module _ {len : ℕ} (e : record_length (take k bytes) ≡ some len) where
-    begins : record_length (take k rest) ≡ some len
-    begins = subst (λ (l : List ℕ). record_length l ≡ some len) front e
+  module _ {len : ℕ} (e : record_length (take k bytes) ≡ Some len) where
+    begins : record_length (take k rest) ≡ Some len
+    begins = subst (λ (l : List ℕ). record_length l ≡ Some len) front e
 
-    pub one-begins : record_length rest ≡ some len
+    pub one-begins : record_length rest ≡ Some len
     one-begins = front-whole k rest begins
 
     pub within : len ≤ k
@@ -138,32 +138,32 @@ module _ (m bytes : List ℕ) (at n k : ℕ) (whole : length m ≡ work_words) (
     its-bytes =
         sym (take-take len k bytes within) ∙ ap (take len) front ∙ take-take len k rest within
 
-    module _ (roots₀ : List ℕ) {roots : List ℕ} {own : ℕ} {r : Roots} (left : Leaves (with_record roots₀ own (take len bytes)) own roots r) where
+    module _ (roots₀ : List ℕ) {roots : List ℕ} {own : ℕ} {r : Option ℕ} (left : Leaves (with_record roots₀ own (take len bytes)) own roots r) where
       here : {o : Option (List ℕ)} → with_record roots₀ own (take len bytes) ≡ o → with_record roots₀ own (take len rest) ≡ o
       here p = ap (with_record roots₀ own) (sym its-bytes) ∙ p
 
-      pub record-stops : r ≡ Roots.Broken → Reads rest own roots₀ roots Step.Broken
+      pub record-stops : r ≡ None → Reads rest own roots₀ roots None
       record-stops t =
           let told = broken-told left t in
           stops (λ more. order-stops more own roots₀ rest some_left one-begins (here told.0)) told.1
 
-      pub record-reads : {top : ℕ} → r ≡ Roots.Left top → Reads rest own roots₀ roots (Step.Next len top)
+      pub record-reads : {top : ℕ} → r ≡ Some top → Reads rest own roots₀ roots (Some (record { len = len; top = top }))
       record-reads t =
           let told = left-told left t in
           reads one-begins (here told.0) told.1 told.2
 
 -- ---- a record that was read
 
-pub next-told : {s before roots : List ℕ} {own len top : ℕ} {r : Step} → Reads s own before roots r → r ≡ Step.Next len top
-    → (record_length s ≡ some len) × (with_record before own (take len s) ≡ some (take top roots)) × (top ≤ own + 1) × (length roots ≡ max_records)
-next-told {s} {before} {roots} {own} {len} {top} (reads {len = l} {top = t} w x f g) e =
-    let same_len : l ≡ len = cc in
-    let same-top : t ≡ top = cc in
-    subst (λ (l : ℕ). (record_length s ≡ some l) × (with_record before own (take l s) ≡ some (take top roots)) × (top ≤ own + 1) × (length roots ≡ max_records)) same_len
-    (subst (λ (t : ℕ). (record_length s ≡ some l) × (with_record before own (take l s) ≡ some (take t roots)) × (t ≤ own + 1) × (length roots ≡ max_records)) same-top (w, x, f, g))
+pub next-told : {s before roots : List ℕ} {own : ℕ} {next : Next} {r : Option Next} → Reads s own before roots r → r ≡ Some next
+    → (record_length s ≡ Some next.len) × (with_record before own (take next.len s) ≡ Some (take next.top roots)) × (next.top ≤ own + 1)
+    × (length roots ≡ max_records)
+next-told {s} {before} {roots} {own} {next} (reads {next = y} w x f g) e =
+    let same-next : y ≡ next = cc in
+    subst (λ (y : Next). (record_length s ≡ Some y.len) × (with_record before own (take y.len s) ≡ Some (take y.top roots)) × (y.top ≤ own + 1) × (length roots ≡ max_records))
+    same-next (w, x, f, g)
 next-told (stops f g) e = absurd (let z : ◌≡◌ {A = ℕ} 0 1 = cc in omega arith)
 
-pub stop-told : {s before roots : List ℕ} {own : ℕ} {r : Step} → Reads s own before roots r → r ≡ Step.Broken
+pub stop-told : {s before roots : List ℕ} {own : ℕ} {r : Option Next} → Reads s own before roots r → r ≡ None
     → (more : ℕ) → in_order more own before s ≡ false
 stop-told (reads w x f g) e = absurd (let z : ◌≡◌ {A = ℕ} 0 1 = cc in omega arith)
 stop-told (stops f g) e = f

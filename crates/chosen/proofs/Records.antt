@@ -3,7 +3,7 @@
 use mathlib.Core.Bool.{Bool, true, false, cond, ◌&&◌}
 use mathlib.Core.List.{List, [], ◌∷◌, ◌++◌}
 use mathlib.Core.Logic.{◌⊎◌, inl, inr}
-use mathlib.Core.Option.{Option, none, some}
+use Rattle.std.specs.Prelude.{Option, None, Some}
 use mathlib.Core.Path.{◌≡◌, refl, sym, ap, subst, ◌∙◌}
 use Prim.Native.Nat.{ℕ, zero, suc, ◌+◌, ◌*◌, ◌-◌, ◌<◌, ◌≤◌}
 use native.Mathlib.Omega.{arith}
@@ -28,7 +28,7 @@ use Rattle.chosen.proofs.Steps.{order-end, order-full, order-broken, order-stops
 
 -- ---- how long a record of the form is
 
-so : (t : Bool) (q : Payload) {p : Payload} → when t q ≡ some p → t ≡ true
+so : (t : Bool) (q : Payload) {p : Payload} → when t q ≡ Some p → t ≡ true
 so true q e = refl
 so false q e = cc
 
@@ -47,7 +47,7 @@ threshold-long w s few e =
     let long = eqb-true (length s) (8 + w * u16 s 6) (and_right three (eqb (length s) (8 + w * u16 s 6)) e) in
     omega (arith, few_bytes w (u16 s 6) few bounds.2)
 
-shape-long : (shape : Shape) (s : List ℕ) {p : Payload} → payload_of shape s ≡ some p → length s ≤ 136
+shape-long : (shape : Shape) (s : List ℕ) {p : Payload} → payload_of shape s ≡ Some p → length s ≤ 136
 unfolding payload_of
 shape-long Shape.Nothing s e =
     let l = eqb-true (length s) 4 (so (eqb (length s) 4) nothing e) in
@@ -76,7 +76,7 @@ shape-long Shape.Threshold s e =
 shape-long Shape.Keys s e =
     threshold-long (width s) s (width_few s) (so (threshold_fits (width s) s) (keys (k_in s) (keys_in s)) e)
 
-pub record-long : (s : List ℕ) {p : Payload} → fragment_payload s ≡ some p → length s ≤ 136
+pub record-long : (s : List ℕ) {p : Payload} → fragment_payload s ≡ Some p → length s ≤ 136
 record-long s e =
     let shaped = record-shape s (fragment-record s e).1 in
     shape-long shaped.0 s shaped.2
@@ -110,10 +110,10 @@ take_whole (suc k) (b ∷ s) h = ap (λ (r : List ℕ). b ∷ r) (take_whole k s
 
 -- ---- the first bytes of a list
 
-pub whole_is : (s : List ℕ) {n : ℕ} → record_length s ≡ some n → u16 s 0 ≡ n
+pub whole_is : (s : List ℕ) {n : ℕ} → record_length s ≡ Some n → u16 s 0 ≡ n
 whole_is s {n} e = by-test (between 4 (length s) (u16 s 0)) e
   where
-    by-test : (t : Bool) → when_whole t (u16 s 0) ≡ some n → u16 s 0 ≡ n
+    by-test : (t : Bool) → when_whole t (u16 s 0) ≡ Some n → u16 s 0 ≡ n
     by-test true e = cc
     by-test false e = cc
 
@@ -121,24 +121,24 @@ first_two : (k : ℕ) (s : List ℕ) → 2 ≤ length (take k s) → u16 (take k
 first_two k s h =
     let few = take-few k s in
     ap or_zero (found 2 (take k s) 0 (le-leb 2 (length (take k s)) h)
-    ∙ ap (λ (l : List ℕ). some (little l)) (take-take 2 k s (omega arith))
+    ∙ ap (λ (l : List ℕ). Some (little l)) (take-take 2 k s (omega arith))
     ∙ sym (found 2 s 0 (le-leb 2 (length s) (omega arith))))
 
 module _ (k : ℕ) (s : List ℕ) where
-  pub front-whole : {len : ℕ} → record_length (take k s) ≡ some len → record_length s ≡ some len
+  pub front-whole : {len : ℕ} → record_length (take k s) ≡ Some len → record_length s ≡ Some len
   front-whole {len} e =
       let bounds = length-bounds (take k s) e in
       let few = take-few k s in
       let is : u16 s 0 ≡ len = sym (first_two k s (omega arith)) ∙ whole_is (take k s) e in
-      length-fits s 0 (omega arith) (omega arith) ∙ ap some is
+      length-fits s 0 (omega arith) (omega arith) ∙ ap Some is
 
-  pub front-few : {len : ℕ} → record_length (take k s) ≡ some len → len ≤ k
+  pub front-few : {len : ℕ} → record_length (take k s) ≡ Some len → len ≤ k
   front-few e =
       let bounds = length-bounds (take k s) e in
       let few = take-few k s in
       omega arith
 
-  front-none : record_length (take k s) ≡ none → {len : ℕ} → record_length s ≡ some len → k ≤ length s → 4 ≤ k → k < len
+  front-none : record_length (take k s) ≡ None → {len : ℕ} → record_length s ≡ Some len → k ≤ length s → 4 ≤ k → k < len
   front-none e {len} w room four = by_size (leb len k) refl
     where
       by_size : (t : Bool) → leb len k ≡ t → k < len
@@ -152,14 +152,14 @@ module _ (k : ℕ) (s : List ℕ) where
       by_size false b = leb-false len k b
 
   -- no record of the form begins where the first bytes show none
-  pub front-broken : (own : ℕ) (roots : List ℕ) → 0 < length s → record_length (take k s) ≡ none → ((length s ≤ k → ⊥) × (k ≡ 136)) ⊎ (length s ≤ k)
+  pub front-broken : (own : ℕ) (roots : List ℕ) → 0 < length s → record_length (take k s) ≡ None → ((length s ≤ k → ⊥) × (k ≡ 136)) ⊎ (length s ≤ k)
       → (more : ℕ) → in_order more own roots s ≡ false
-  front-broken own roots h e (inr all) more = order-broken more own roots s h (subst (λ (l : List ℕ). record_length l ≡ none) (take_whole k s all) e)
+  front-broken own roots h e (inr all) more = order-broken more own roots s h (subst (λ (l : List ℕ). record_length l ≡ None) (take_whole k s all) e)
   front-broken own roots h e (inl part) more = by_length (record_length s) refl
     where
-      no_payload : {len : ℕ} → record_length s ≡ some len → (o : Option Payload) → fragment_payload (take len s) ≡ o → o ≡ none
-      no_payload w none p = refl
-      no_payload {len} w (some q) p =
+      no_payload : {len : ℕ} → record_length s ≡ Some len → (o : Option Payload) → fragment_payload (take len s) ≡ o → o ≡ None
+      no_payload w None p = refl
+      no_payload {len} w (Some q) p =
           let long = length-take-le len s (omega (arith, length-bounds s w)) in
           let l = record-long (take len s) p in
           let over = front-none e w (omega (arith, not-all (length s) k part.0)) (omega (arith, part.1)) in
@@ -173,9 +173,9 @@ module _ (k : ℕ) (s : List ℕ) where
               by_order false l = leb-false a b l
 
       by_length : (o : Option ℕ) → record_length s ≡ o → in_order more own roots s ≡ false
-      by_length none w = order-broken more own roots s h w
-      by_length (some len) w =
-          let p : fragment_payload (take len s) ≡ none = no_payload w (fragment_payload (take len s)) refl in
+      by_length None w = order-broken more own roots s h w
+      by_length (Some len) w =
+          let p : fragment_payload (take len s) ≡ None = no_payload w (fragment_payload (take len s)) refl in
           order-stops more own roots s h w (with-unfit roots own (take len s) p)
 
 -- ---- the loop over the records
@@ -204,8 +204,8 @@ module _ {bytes roots : List ℕ} {top at own : ℕ} (so_far : Progress bytes ro
   pub progress-broken : ((more : ℕ) → in_order more own (take top roots) (drop at bytes) ≡ false) → is_written bytes ≡ false
   progress-broken f = sym so_far.rest ∙ f (max_records - own)
 
-  pub progress-next : at < length bytes → own < max_records → (roots' : List ℕ) (len after : ℕ) → record_length (drop at bytes) ≡ some len
-      → with_record (take top roots) own (take len (drop at bytes)) ≡ some (take after roots') → after ≤ own + 1 → length roots' ≡ max_records
+  pub progress-next : at < length bytes → own < max_records → (roots' : List ℕ) (len after : ℕ) → record_length (drop at bytes) ≡ Some len
+      → with_record (take top roots) own (take len (drop at bytes)) ≡ Some (take after roots') → after ≤ own + 1 → length roots' ≡ max_records
       → Progress bytes roots' after (at + len) (own + 1)
   progress-next h l roots' len after w t fits long =
       let one : max_records - own ≡ suc (max_records - (own + 1)) = omega arith in
@@ -221,7 +221,7 @@ module _ {bytes roots : List ℕ} {top at own : ℕ} (so_far : Progress bytes ro
         room = long;
       }
 
-  pub progress-later : {len : ℕ} → record_length (drop at bytes) ≡ some len → (at < at + len) × (at + len ≤ length bytes)
+  pub progress-later : {len : ℕ} → record_length (drop at bytes) ≡ Some len → (at < at + len) × (at + len ≤ length bytes)
   progress-later w =
       let bounds = length-bounds (drop at bytes) w in
       (omega arith, omega (arith, length-drop at bytes))

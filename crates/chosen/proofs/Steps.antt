@@ -1,12 +1,13 @@
 -- Records in order, one after another: what each step of the reading tells. Assumes nothing.
 use mathlib.Core.Bool.{Bool, true, false, cond, ◌&&◌}
 use mathlib.Core.List.{List, [], ◌∷◌, ◌++◌}
-use mathlib.Core.Option.{Option, none, some}
+use Rattle.std.specs.Prelude.{Option, None, Some}
 use mathlib.Core.Path.{◌≡◌, refl, sym, ap, ◌∙◌}
 use Prim.Native.Nat.{ℕ, zero, suc, ◌+◌, ◌*◌, ◌-◌, ◌<◌, ◌≤◌}
 use native.Mathlib.Omega.{arith}
 use native.Mathlib.Numerals.{add-one}
 use borrow.Author.Tests.{eqb-true, eq-eqb, ne_eqb, leb-true, le-leb, lt-leb}
+use lib.Pointwise.{pointwise}
 use lib.Dec.{eqb, leb}
 use lib.ListN.{length, get_or, take, drop, length-drop, length-append}
 use lib.Seq.{drop-cons, get_or-take, length-take-le, drop-append_seam, take-append_seam}
@@ -30,26 +31,26 @@ unfolding in_order
 order-full own roots [] h = absurd (omega arith)
 order-full own roots (b ∷ bs) h = refl
 
-pub order-broken : (more own : ℕ) (roots s : List ℕ) → 0 < length s → record_length s ≡ none → in_order more own roots s ≡ false
+pub order-broken : (more own : ℕ) (roots s : List ℕ) → 0 < length s → record_length s ≡ None → in_order more own roots s ≡ false
 unfolding in_order
 order-broken zero own roots [] h e = absurd (omega arith)
 order-broken zero own roots (b ∷ bs) h e = refl
 order-broken (suc more) own roots [] h e = absurd (omega arith)
 order-broken (suc more) own roots (b ∷ bs) h e = rw e
 
-pub order-next : (more own : ℕ) (roots s : List ℕ) {len : ℕ} → 0 < length s → record_length s ≡ some len
+pub order-next : (more own : ℕ) (roots s : List ℕ) {len : ℕ} → 0 < length s → record_length s ≡ Some len
     → in_order (suc more) own roots s ≡ and_then (with_record roots own (take len s)) (λ after. in_order more (suc own) after (drop len s))
 unfolding in_order
 order-next more own roots [] h e = absurd (omega arith)
 order-next more own roots (b ∷ bs) h e = rw e
 
-pub order-stops : (more own : ℕ) (roots s : List ℕ) {len : ℕ} → 0 < length s → record_length s ≡ some len → with_record roots own (take len s) ≡ none
+pub order-stops : (more own : ℕ) (roots s : List ℕ) {len : ℕ} → 0 < length s → record_length s ≡ Some len → with_record roots own (take len s) ≡ None
     → in_order more own roots s ≡ false
 order-stops zero own roots s h e w = order-full own roots s h
 order-stops (suc more) own roots s {len} h e w =
     order-next more own roots s h e ∙ ap (λ (o : Option (List ℕ)). and_then o (λ after. in_order more (suc own) after (drop len s))) w
 
-pub order-goes-on : (more own : ℕ) (roots s after : List ℕ) {len : ℕ} → 0 < length s → record_length s ≡ some len → with_record roots own (take len s) ≡ some after
+pub order-goes-on : (more own : ℕ) (roots s after : List ℕ) {len : ℕ} → 0 < length s → record_length s ≡ Some len → with_record roots own (take len s) ≡ Some after
     → in_order (suc more) own roots s ≡ in_order more (own + 1) after (drop len s)
 order-goes-on more own roots s after {len} h e w =
     order-next more own roots s h e ∙ ap (λ (o : Option (List ℕ)). and_then o (λ after. in_order more (suc own) after (drop len s))) w
@@ -57,19 +58,19 @@ order-goes-on more own roots s after {len} h e w =
 
 -- ---- a record's own part
 
-pub with-short : (roots : List ℕ) (own : ℕ) (s : List ℕ) → is_short (written_kind s) ≡ true → with_record roots own s ≡ none
+pub with-short : (roots : List ℕ) (own : ℕ) (s : List ℕ) → is_short (written_kind s) ≡ true → with_record roots own s ≡ None
 unfolding with_record
 with-short roots own s e = rw e
 
-pub with-unfit : (roots : List ℕ) (own : ℕ) (s : List ℕ) → fragment_payload s ≡ none → with_record roots own s ≡ none
+pub with-unfit : (roots : List ℕ) (own : ℕ) (s : List ℕ) → fragment_payload s ≡ None → with_record roots own s ≡ None
 unfolding with_record
 with-unfit roots own s e = rw e (either (is_short (written_kind s)))
   where
-    either : (t : Bool) → cond {A = Option (List ℕ)} t none none ≡ none
+    either : (t : Bool) → cond {A = Option (List ℕ)} t None None ≡ None
     either true = refl
     either false = refl
 
-pub with-fit : (roots : List ℕ) (own : ℕ) (s : List ℕ) {p : Payload} → is_short (written_kind s) ≡ false → fragment_payload s ≡ some p
+pub with-fit : (roots : List ℕ) (own : ℕ) (s : List ℕ) {p : Payload} → is_short (written_kind s) ≡ false → fragment_payload s ≡ Some p
     → with_record roots own s ≡ taking roots own (children_of p)
 unfolding with_record
 with-fit roots own s k e = rw (k, e)
@@ -114,7 +115,7 @@ same-done xs ys i j h l = rw (none_left xs i h, none_left ys j l) nothing
     nothing : same [] [] ≡ true
     nothing = refl
 
-pub taking-last : (roots children : List ℕ) (own : ℕ) → taking (roots ++ children) own children ≡ some (roots ++ (own ∷ []))
+pub taking-last : (roots children : List ℕ) (own : ℕ) → taking (roots ++ children) own children ≡ Some (roots ++ (own ∷ []))
 unfolding taking
 taking-last roots children own =
     let e : length (roots ++ children) - length children ≡ length roots = omega (arith, length-append roots children) in
@@ -154,6 +155,14 @@ module _ (roots children : List ℕ) (top n : ℕ) where
 
       pub last-ends : n ≤ j → same (drop (top - n) (take top roots)) (take n children) ≡ true
       last-ends h = sym inv ∙ same-done (take top roots) (take n children) (top - n + j) j (omega (arith, long)) (omega (arith, these))
+
+-- the comparison of two slices is that of their numbers
+pub same-pointwise : (xs ys : List ℕ) → pointwise eqb xs ys ≡ same xs ys
+unfolding same
+same-pointwise [] [] = refl
+same-pointwise [] (y ∷ ys) = refl
+same-pointwise (x ∷ xs) [] = refl
+same-pointwise (x ∷ xs) (y ∷ ys) = ap (λ (t : Bool). eqb x y && t) (same-pointwise xs ys)
 
 -- ---- the kinds of keys of 32 bits
 

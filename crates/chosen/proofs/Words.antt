@@ -92,27 +92,11 @@ module _ (m : List ℕ) (long : length m ≡ work_words) where
       ∙ ap (λ (w : ℕ). w / 2 ^ (8 * (i % 8)) % 256) (get_or-drop 1 m (i / 8) 0)
 
   -- one byte more is copied
-  pub copied_more : (at n : ℕ) (bytes : List ℕ) (j : ℕ) → n ≤ 136 → at + n ≤ tree_bytes
-      → (take j bytes ≡ take j (drop at (room_in m))) × (length bytes ≡ 136) × (j ≤ n)
-      → j < n → (b : ℕ) → b ≡ get_or (room_in m) (at + j) 0
-      → (take (j + 1) (set bytes j b) ≡ take (j + 1) (drop at (room_in m))) × (length (set bytes j b) ≡ 136) × (j + 1 ≤ n)
-  copied_more at n bytes j few room inv h b is =
+  pub copied_more : (at : ℕ) (bytes : List ℕ) (j k : ℕ) → at + j ≡ k → k < tree_bytes → j < length bytes → take j bytes ≡ take j (drop at (room_in m))
+      → (b : ℕ) → b ≡ get_or (room_in m) k 0 → take (j + 1) (set bytes j b) ≡ take (j + 1) (drop at (room_in m))
+  copied_more at bytes j k here room lt inv b is =
       let there : j < length (drop at (room_in m)) = omega (arith, room_whole, length-drop at (room_in m)) in
-      let wide : length bytes ≡ 136 = inv.1 in (
-        rw (add-one j, take-suc-set bytes j b (omega arith), take-suc (drop at (room_in m)) j 0 there, get_or-drop at (room_in m) j 0, is, inv.0),
-        length-set bytes j b ∙ wide,
-        omega arith,
-      )
-
-  -- one byte more is laid in an output
-  pub laid_more : (n : ℕ) (out₀ out : List ℕ) (i : ℕ) → n ≤ tree_bytes → n ≤ length out₀ → i < n → out ≡ take i (room_in m) ++ drop i out₀
-      → (b : ℕ) → b ≡ get_or (room_in m) i 0 → set out i b ≡ take (i + 1) (room_in m) ++ drop (i + 1) out₀
-  laid_more n out₀ out i few room h inv b is =
-      let there : i < length (room_in m) = omega (arith, room_whole) in
-      let front : length (take i (room_in m)) ≡ i = length-take-le i (room_in m) (omega arith) in
-      ap (λ (l : List ℕ). set l i b) (inv ∙ ap (λ (l : List ℕ). take i (room_in m) ++ l) (drop-cons out₀ i 0 (omega arith)))
-      ∙ set_at (take i (room_in m)) (get_or out₀ i 0) (drop (suc i) out₀) b i front
-      ∙ rw (add-one i, take-suc (room_in m) i 0 there, append_assoc (take i (room_in m)) (get_or (room_in m) i 0 ∷ []) (drop (suc i) out₀), is)
+      rw (add-one j, take-suc-set bytes j b lt, take-suc (drop at (room_in m)) j 0 there, get_or-drop at (room_in m) j 0, here, is, inv)
 
 -- ---- the number that a word's bytes write
 

@@ -2,7 +2,7 @@
 -- Assumes nothing.
 use mathlib.Core.Bool.{Bool, true, false, cond}
 use mathlib.Core.List.{List, [], ◌∷◌, ◌++◌, append_assoc, append-nil}
-use mathlib.Core.Option.{Option, none, some}
+use Rattle.std.specs.Prelude.{Option, None, Some}
 use mathlib.Core.Path.{◌≡◌, refl, sym, ap, subst, ◌∙◌}
 use Prim.Native.Nat.{ℕ, zero, suc, ◌+◌, ◌*◌, ◌-◌, ◌^◌, ◌<◌, ◌≤◌}
 use native.Mathlib.Omega.{arith}
@@ -42,7 +42,7 @@ pub record Tells (kind : ℕ) (front : List ℕ) (n : ℕ) : Type 0 where
 
 -- the number of a fragment's kind that is written, with the shape of its payload
 abbrev Known : ℕ → Shape → Type 0
-Known kind shape = (is_fragment_kind (meant kind) ≡ true) × (shape_of (meant kind) ≡ some shape) × (kind < 65536) × (is_short kind ≡ false)
+Known kind shape = (is_fragment_kind (meant kind) ≡ true) × (shape_of (meant kind) ≡ Some shape) × (kind < 65536) × (is_short kind ≡ false)
 
 module _ (kind : ℕ) {shape : Shape} (known : Known kind shape) where
   kind-written : (payload : List ℕ) → written_kind (record_of kind payload) ≡ kind
@@ -54,13 +54,13 @@ module _ (kind : ℕ) {shape : Shape} (known : Known kind shape) where
       let same = record-kind kind payload known.2 in
       of-fragment (record_of kind payload) (rw same known.0) (rw same known.1)
 
-  record-taken : (payload cs : List ℕ) (p : Payload) → payload_of shape (record_of kind payload) ≡ some p → children_of p ≡ cs
+  record-taken : (payload cs : List ℕ) (p : Payload) → payload_of shape (record_of kind payload) ≡ Some p → children_of p ≡ cs
       → (roots : List ℕ) (own : ℕ) → with_record roots own (record_of kind payload) ≡ taking roots own cs
   record-taken payload cs p e c roots own =
       with-fit roots own (record_of kind payload) (ap is_short (kind-written payload) ∙ known.3) (payload-as payload ∙ e)
       ∙ ap (taking roots own) c
 
-  leaf-tells : (bytes : List ℕ) (p : Payload) → length bytes < 65532 → payload_of shape (record_of kind bytes) ≡ some p → children_of p ≡ []
+  leaf-tells : (bytes : List ℕ) (p : Payload) → length bytes < 65532 → payload_of shape (record_of kind bytes) ≡ Some p → children_of p ≡ []
       → Tells kind bytes 0
   unfolding in_row
   leaf-tells bytes p few e c = record { few = omega arith; tells = tells }
@@ -82,7 +82,7 @@ plain-tells : (kind : ℕ) → Known kind Shape.Nothing → Tells kind [] 0
 unfolding payload_of bytes_of
 plain-tells kind known = leaf-tells kind known [] nothing (omega arith) none-there refl
   where
-    none-there : payload_of Shape.Nothing (record_of kind []) ≡ some nothing
+    none-there : payload_of Shape.Nothing (record_of kind []) ≡ Some nothing
     none-there = refl
 
 number-tells : (kind w : ℕ) → w ≤ 8 → Wide kind w → Known kind Shape.Number → (n : ℕ) → n < 256 ^ w → Tells kind (bytes_of w n) 0
@@ -225,7 +225,7 @@ mutual
       let whole = record-whole kind payload rest few in
       let front-is : take len (s ++ rest) ≡ s = take_at s rest len (length-record kind payload) in
       let rest-is : drop len (s ++ rest) ≡ rest = drop_at s rest len (length-record kind payload) in
-      let takes : with_record (roots ++ cs) (n + counts xs) (take len (s ++ rest)) ≡ some (roots ++ ((n + counts xs) ∷ [])) =
+      let takes : with_record (roots ++ cs) (n + counts xs) (take len (s ++ rest)) ≡ Some (roots ++ ((n + counts xs) ∷ [])) =
       ap (with_record (roots ++ cs) (n + counts xs)) front-is
       ∙ told.0.tells cs (owns-long xs n) (owns-below xs n (omega arith)) (roots ++ cs) (n + counts xs)
       ∙ taking-last roots cs (n + counts xs) in

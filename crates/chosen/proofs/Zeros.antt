@@ -8,6 +8,7 @@ use native.Mathlib.Numerals.{add-one}
 use borrow.Author.Tests.{eqb-true, eq-eqb, ne_eqb}
 use lib.Dec.{eqb}
 use lib.ListN.{length, get_or, take, drop, replicate}
+use Rattle.std.specs.Prelude.{IsTrue, ◌↔◌, EachIndex, slice_index}
 use lib.Seq.{drop-cons}
 use Rattle.records.proofs.Forms.{and_left, and_right}
 use Rattle.words.specs.Bytes.{little, bytes_of}
@@ -107,3 +108,30 @@ unfolding all_zero
 zero-drop zero s e = e
 zero-drop (suc n) [] e = refl
 zero-drop (suc n) (x ∷ s) e = zero-drop n s (and_right (eqb x 0) (all_zero s) e)
+
+-- a test of each word, told by what holds at each index, is that of all their bytes
+each-zero : (s : List ℕ) → ((k : ℕ) → k < length s → get_or s k 0 ≡ 0) → all_zero (bytes_in s) ≡ true
+unfolding all_zero bytes_in
+each-zero [] g = refl
+each-zero (w ∷ s) g =
+    zero-append (bytes_of 8 w) (bytes_in s)
+    ∙ rw (g 0 (omega arith), zero-bytes 8) (each-zero s (λ k h. g (suc k) (omega arith)))
+
+zero-each : (s : List ℕ) → ((k : ℕ) → get_or s k 0 < 18446744073709551616) → all_zero (bytes_in s) ≡ true → (k : ℕ) → k < length s → get_or s k 0 ≡ 0
+unfolding all_zero bytes_in
+zero-each [] f e k h = absurd (omega arith)
+zero-each (w ∷ s) f e zero h =
+    let both = sym (zero-append (bytes_of 8 w) (bytes_in s)) ∙ e in
+    sym (little-bytes 8 w (f 0)) ∙ zero-little (bytes_of 8 w) (and_left (all_zero (bytes_of 8 w)) (all_zero (bytes_in s)) both)
+zero-each (w ∷ s) f e (suc k) h =
+    let both = sym (zero-append (bytes_of 8 w) (bytes_in s)) ∙ e in
+    zero-each s (λ j. f (suc j)) (and_right (all_zero (bytes_of 8 w)) (all_zero (bytes_in s)) both) k (omega arith)
+
+pub words-tested : (words : List ℕ) (b : Bool) → IsTrue b ↔ EachIndex words (λ k. get_or words k 0 ≡ 0)
+    → ((k : ℕ) → get_or words k 0 < 18446744073709551616) → b ≡ all_zero (bytes_in words)
+words-tested words true h f = sym (each-zero words (h.0 refl))
+words-tested words false h f = by-test (all_zero (bytes_in words)) refl
+  where
+    by-test : (t : Bool) → all_zero (bytes_in words) ≡ t → false ≡ t
+    by-test true e = h.1 (zero-each words f e)
+    by-test false e = refl

@@ -1,8 +1,7 @@
 -- Which bytes a work memory holds, if any: document 02, R-7 (whoever filled it). They are records that write one tree as compile does: document 01,
 -- "Records" (the form of each; post-order, children left to right; the last record is the root), at most 4,096, with keys in the kinds of 64
 -- bits (document 02, R-3). Types, heights and local validity are no part of it. Assumes nothing.
-use Rattle.std.specs.Prelude.{Bool, true, false, cond, ◌&&◌, ◌||◌, List, [], ◌∷◌, ◌++◌, ℕ, zero, suc, ◌-◌, eqb, leb, length, take, drop}
-use Rattle.std.proofs.Math.Option.{Option, none, some}
+use Rattle.std.specs.Prelude.{Bool, true, false, cond, ◌&&◌, ◌||◌, List, [], ◌∷◌, ◌++◌, ℕ, zero, suc, ◌-◌, eqb, leb, length, take, drop, Option, None, Some}
 use Rattle.memory.specs.Layout.{work_words, word_at}
 use Rattle.records.specs.Numbers.{between}
 use Rattle.records.specs.Payloads.{Payload, written_kind, children_of}
@@ -11,8 +10,8 @@ use Rattle.trees.specs.Reading.{max_records}
 use Rattle.chosen.specs.Form.{tree_bytes, room_in, held_in}
 
 abbrev pub if_so : {A : Type 0} → Bool → A → Option A
-if_so true a = some a
-if_so false a = none
+if_so true a = Some a
+if_so false a = None
 
 -- ---- records in post-order
 
@@ -33,16 +32,16 @@ taking roots own children =
     if_so (same (drop (length roots - length children) roots) children) (take (length roots - length children) roots ++ (own ∷ []))
 
 abbrev pub taking_all : (roots : List ℕ) → (own : ℕ) → Option Payload → Option (List ℕ)
-taking_all roots own none = none
-taking_all roots own (some payload) = taking roots own (children_of payload)
+taking_all roots own None = None
+taking_all roots own (Some payload) = taking roots own (children_of payload)
 
 -- the roots once record `own` has been read, if it is of the form and of a kind that is written
 unfoldable pub with_record : (roots : List ℕ) → (own : ℕ) → (bytes : List ℕ) → Option (List ℕ)
-with_record roots own bytes = cond (is_short (written_kind bytes)) none (taking_all roots own (fragment_payload bytes))
+with_record roots own bytes = cond (is_short (written_kind bytes)) None (taking_all roots own (fragment_payload bytes))
 
 abbrev pub and_then : {A : Type 0} → Option A → (A → Bool) → Bool
-and_then none next = false
-and_then (some a) next = next a
+and_then None next = false
+and_then (Some a) next = next a
 
 -- whether some bytes are such records, of which so many may still begin, and leave one root
 unfoldable pub in_order : (more own : ℕ) → (roots : List ℕ) → List ℕ → Bool

@@ -13,8 +13,6 @@ ghost use Rattle.chosen.specs.Form.{tree_bytes, most_bytes, bytes_in, room_in, h
 ghost use Rattle.chosen.specs.Chosen.{is_short, same, with_record, is_written, all_zero};
 ghost use Rattle.chosen.specs.Answers.{Leaves, Reads, Tells};
 
-use records::RecordLength;
-
 // The one length of work memory, in words, and the bytes of its words behind word 0.
 const WORK_WORDS: usize = 612_360;
 
@@ -25,25 +23,11 @@ const MAX_RECORDS: usize = 4096;
 
 const MAX_BYTES: usize = 136;
 
-// How many roots there are after a record, or that it is none that is written.
+// How many bytes a record has, and how many roots there are after it.
 #[derive(Clone, Copy)]
-enum Roots {
-    Left(usize),
-    Broken,
-}
-
-// How many bytes a record has and how many roots there are after it, or that the bytes write no tree.
-#[derive(Clone, Copy)]
-enum Step {
-    Next(usize, usize),
-    Broken,
-}
-
-// How many bytes a memory holds, or that it holds no tree.
-#[derive(Clone, Copy)]
-pub enum Held {
-    Bytes(usize),
-    Nothing,
+struct Next {
+    len: usize,
+    top: usize,
 }
 
 // Byte i behind word 0.
@@ -62,10 +46,8 @@ fn bytes_at(work: &[u64], at: usize, n: usize) -> [u8; 136]
     ensures { take n result ≡ take n (drop at (room_in work.now)) }
 {
     let mut bytes = [0; 136];
-    let mut j = 0;
-    while j < n {
-        bytes[j] = byte_at(work, at + j);
-        j += 1;
+    for (j, byte) in bytes[..n].iter_mut().enumerate() {
+        *byte = byte_at(work, at + j);
     }
     bytes
 }
@@ -74,6 +56,7 @@ fn bytes_at(work: &[u64], at: usize, n: usize) -> [u8; 136]
 fn is_short(kind: u16) -> bool
     ensures { result ≡ is_short kind }
 {
+    // A kind stays a number: a record or a node holds one, and the contract answers on every number.
     match kind {
         // PkK, PkH.
         34..=35 => true,
@@ -91,62 +74,48 @@ fn last_are(roots: &[u16], top: usize, children: [u16; 16], n: usize) -> bool
     if top < n {
         return false;
     }
-    let from = top - n;
-    let mut j = 0;
-    while j < n {
-        if roots[from + j] != children[j] {
-            return false;
-        }
-        j += 1;
-    }
-    true
+    roots[top - n..top] == children[..n]
 }
 
 // Reads a whole record when `own` records are read: takes its children from the roots, and adds itself.
-fn take_record(bytes: &[u8], roots: &mut [u16], top: usize, own: usize) -> Roots
+fn take_record(bytes: &[u8], roots: &mut [u16], top: usize, own: usize) -> Option<usize>
     requires { (length roots.old ≡ max_records) × ((top ≤ own) × (own < max_records)) }
     ensures { Leaves (with_record (take top roots.old) own bytes.now) own roots.new result }
 {
     if is_short(records::written_kind(bytes)) {
-        return Roots::Broken;
+        return None;
     }
     let parts = records::fragment_parts(bytes);
-    let fits = parts.fits;
-    if fits {
-        let kind = records::kind_of(bytes);
-        let n = records::arity(kind, parts.count);
-        let children = parts.children;
-        if last_are(roots, top, children, n) {
-            let left = top - n;
-            roots[left] = own as u16;
-            return Roots::Left(left + 1);
-        }
+    if !parts.fits {
+        return None;
     }
-    Roots::Broken
+    let n = records::arity(records::kind_of(bytes), parts.count);
+    if !last_are(roots, top, parts.children, n) {
+        return None;
+    }
+    let left = top - n;
+    roots[left] = own as u16;
+    Some(left + 1)
 }
 
-// The smaller of two numbers.
-fn smaller(a: usize, b: usize) -> usize
-    ensures { (result ≤ a) × ((result ≤ b) × ((b ≤ a → result ≡ b) × (a ≤ b → result ≡ a))) }
-{
-    if a < b { a } else { b }
-}
-
-// Reads the record that begins at byte `at`, of n bytes in all.
-fn next_record(work: &[u64], at: usize, n: usize, roots: &mut [u16], top: usize, own: usize) -> Step
+// Reads the record that begins at byte `at`, of n bytes in all, unless the bytes write no tree.
+fn next_record(
+    work: &[u64],
+    at: usize,
+    n: usize,
+    roots: &mut [u16],
+    top: usize,
+    own: usize,
+) -> Option<Next>
     requires work_len { (length work.now ≡ work_words) × ((at < n) × (n ≤ tree_bytes)) }
     requires roots_len { (length roots.old ≡ max_records) × ((top ≤ own) × (own < max_records)) }
     ensures { Reads (drop at (take n (room_in work.now))) own (take top roots.old) roots.new result }
 {
-    let some = smaller(n - at, MAX_BYTES);
+    let some = (n - at).min(MAX_BYTES);
     let bytes = bytes_at(work, at, some);
-    let RecordLength::Whole(len) = records::length_at(&bytes[..some], 0) else {
-        return Step::Broken;
-    };
-    let Roots::Left(after) = take_record(&bytes[..len], roots, top, own) else {
-        return Step::Broken;
-    };
-    Step::Next(len, after)
+    let len = records::length_at(&bytes[..some], 0)?;
+    let after = take_record(&bytes[..len], roots, top, own)?;
+    Some(Next { len, top: after })
 }
 
 // Whether the first n bytes write a tree.
@@ -158,15 +127,16 @@ fn is_written(work: &[u64], n: usize) -> bool
     let mut top = 0;
     let mut at = 0;
     let mut own = 0;
+    // A `while`, since records are of unequal length.
     while at < n {
         if own == MAX_RECORDS {
             return false;
         }
-        let Step::Next(len, after) = next_record(work, at, n, &mut roots, top, own) else {
+        let Some(next) = next_record(work, at, n, &mut roots, top, own) else {
             return false;
         };
-        top = after;
-        at += len;
+        top = next.top;
+        at += next.len;
         own += 1;
     }
     top == 1
@@ -177,14 +147,7 @@ fn zero_from(work: &[u64], from: usize) -> bool
     requires { from ≤ length work.now }
     ensures { result ≡ all_zero (bytes_in (drop from work.now)) }
 {
-    let mut i = from;
-    while i < work.len() {
-        if work[i] != 0 {
-            return false;
-        }
-        i += 1;
-    }
-    true
+    work[from..].iter().all(|word| *word == 0)
 }
 
 // Whether the bytes from byte n on are zero.
@@ -192,32 +155,34 @@ fn zero_behind(work: &[u64], n: usize) -> bool
     requires { (length work.now ≡ work_words) × (n ≤ tree_bytes) }
     ensures { result ≡ all_zero (drop n (room_in work.now)) }
 {
-    let mut i = n;
-    while i % 8 != 0 {
+    let words = n.div_ceil(8);
+    for i in n..8 * words {
         if byte_at(work, i) != 0 {
             return false;
         }
-        i += 1;
     }
-    zero_from(work, 1 + i / 8)
+    zero_from(work, 1 + words)
 }
 
 // How many bytes of a tree a memory holds, of any length and whoever filled it.
-pub fn tree_in(work: &[u64]) -> Held
+pub fn tree_in(work: &[u64]) -> Option<usize>
     ensures { Tells work.now result }
 {
-    if work.len() == WORK_WORDS {
-        let count = work[0];
-        if count <= TREE_BYTES {
-            let n = count as usize;
-            if zero_behind(work, n) {
-                if is_written(work, n) {
-                    return Held::Bytes(n);
-                }
-            }
-        }
+    if work.len() != WORK_WORDS {
+        return None;
     }
-    Held::Nothing
+    let count = work[0];
+    if TREE_BYTES < count {
+        return None;
+    }
+    let n = count as usize;
+    if !zero_behind(work, n) {
+        return None;
+    }
+    if !is_written(work, n) {
+        return None;
+    }
+    Some(n)
 }
 
 // Writes the first n bytes to the front of an output.
@@ -225,10 +190,8 @@ pub fn write(work: &[u64], n: usize, out: &mut [u8])
     requires { (length work.now ≡ work_words) × ((n ≤ tree_bytes) × (n ≤ length out.old)) }
     ensures { out.new ≡ take n (room_in work.now) ++ drop n out.old }
 {
-    let mut i = 0;
-    while i < n {
-        out[i] = byte_at(work, i);
-        i += 1;
+    for (i, byte) in out[..n].iter_mut().enumerate() {
+        *byte = byte_at(work, i);
     }
 }
 
@@ -240,9 +203,7 @@ pub fn hold(bytes: &[u8], n: usize, work: &mut [u64])
 {
     words::clear(work);
     work[0] = n as u64;
-    let mut i = 0;
-    while 8 * i < n {
+    for i in 0..n.div_ceil(8) {
         work[1 + i] = records::u64_or_zero(bytes, 8 * i);
-        i += 1;
     }
 }

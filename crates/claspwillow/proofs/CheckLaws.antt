@@ -1,9 +1,11 @@
 -- What the tree check's number says to an entry that calls it: 0 that the tree has passed, any other that it is refused with it. Assumes nothing.
+use Rattle.types.specs.declared.«Type».{«Type»}
+use Rattle.correctness.specs.declared.TypeError.{TypeError}
 use Prim.Native.Nat.{ℕ, zero, suc, ◌<◌}
 use mathlib.Core.Bool.{Bool, true, false, cond}
 use mathlib.Core.List.{List, [], ◌∷◌, ◌++◌, map}
-use mathlib.Core.Option.{Option, none, some}
-use mathlib.Core.Path.{◌≡◌, refl, ap, ◌∙◌}
+use Rattle.std.specs.Prelude.{Option, None, Some, Result, Ok, Err}
+use mathlib.Core.Path.{◌≡◌, refl, sym, ap, ◌∙◌}
 use native.Mathlib.Omega.{arith}
 use borrow.Author.Tests.{eqb-true, ne_eqb}
 use lib.Dec.{leb, eqb}
@@ -13,8 +15,6 @@ use Rattle.records.specs.Payloads.{Payload, children_of}
 use Rattle.records.specs.RecordForm.{record_length, kind_of, fragment_payload}
 use Rattle.contexts.specs.declared.Context.{Context}
 use Rattle.contexts.specs.declared.Context.TheVariants.{Segwitv0, Tap}
-use Rattle.types.specs.declared.TypeResult.{TypeResult}
-use Rattle.types.specs.declared.TypeResult.TheVariants.{Ok, IllTyped}
 use Rattle.trees.specs.Fragment.{Fragment}
 use Rattle.trees.specs.Typing.{type_of}
 use Rattle.trees.specs.Height.{max_height, height_of}
@@ -36,8 +36,8 @@ numbered-then (refused n) next p q = p
 numbered-then (done x) next p q = q x
 
 numbered-or : {A : Type 0} (n : ℕ) (o : Option A) → 0 < n → Numbered (or_refuse n o)
-numbered-or n (some a) h = tt
-numbered-or n none h = h
+numbered-or n (Some a) h = tt
+numbered-or n None h = h
 
 module _ {A : Type 0} (make : ℕ → Payload → List A → Answer A) (makes : (kind : ℕ) (p : Payload) (xs : List A) → Numbered (make kind p xs)) where
   numbered-record : (slots : Slots A) (s : List ℕ) → Numbered (add_record make slots s)
@@ -47,7 +47,7 @@ module _ {A : Type 0} (make : ℕ → Payload → List A → Answer A) (makes : 
       (numbered-or bad_tree (fragment_payload s) (omega arith))
       (λ p. numbered-then (or_refuse bad_tree (take_all (children_of p) slots)) (λ t. add_made make (kind_of s) p t)
       (numbered-or bad_tree (take_all (children_of p) slots) (omega arith))
-      (λ t. numbered-then (make (kind_of s) p t.those) (λ x. done (t.left ++ (some x ∷ []))) (makes (kind_of s) p t.those) (λ x. tt)))
+      (λ t. numbered-then (make (kind_of s) p t.those) (λ x. done (t.left ++ (Some x ∷ []))) (makes (kind_of s) p t.those) (λ x. tt)))
 
   numbered-read : (more : ℕ) (slots : Slots A) (bytes : List ℕ) → Numbered (read_from make more slots bytes)
   unfolding read_from
@@ -62,13 +62,13 @@ module _ {A : Type 0} (make : ℕ → Payload → List A → Answer A) (makes : 
       (numbered-record slots (take len (b ∷ bs)))
       (λ slots'. numbered-read more slots' (drop len (b ∷ bs))))
 
-numbered-type : (f : Fragment) (r : TypeResult) → Numbered (typed f r)
+numbered-type : (f : Fragment) (r : Result «Type» TypeError) → Numbered (typed f r)
 numbered-type f (Ok t) = by_height (leb (height_of f) max_height)
   where
     by_height : (b : Bool) → Numbered {A = Typed} (cond b (done (record { tree = f; type = t })) (refused tree_too_tall))
     by_height true = tt
     by_height false = omega arith
-numbered-type f IllTyped = omega arith
+numbered-type f (Err TypeError.IllTyped) = omega arith
 
 numbered-made : (c : Context) (kind : ℕ) (p : Payload) (xs : List Typed) → Numbered (make_typed c kind p xs)
 numbered-made c kind p xs =
@@ -86,20 +86,20 @@ numbered-check context tree words =
 
 -- ---- the context by its number
 
-pub segwit : (context : ℕ) → context ≡ 0 → (x : Context) → context_of context ≡ some x → Segwitv0 ≡ x
+pub segwit : (context : ℕ) → context ≡ 0 → (x : Context) → context_of context ≡ Some x → Segwitv0 ≡ x
 segwit context z x e =
-    let first : context_of context ≡ some Segwitv0 = rw z in
+    let first : context_of context ≡ Some Segwitv0 = rw z in
     cc
 
-pub tap : (context : ℕ) → (context ≡ 0 → ⊥) → (x : Context) → context_of context ≡ some x → Tap ≡ x
+pub tap : (context : ℕ) → (context ≡ 0 → ⊥) → (x : Context) → context_of context ≡ Some x → Tap ≡ x
 tap context z x e = by-test (eqb context 1) refl
   where
     by-test : (b : Bool) → eqb context 1 ≡ b → Tap ≡ x
     by-test true t =
-        let second : context_of context ≡ some Tap = rw (ne_eqb context 0 z, t) in
+        let second : context_of context ≡ Some Tap = rw (ne_eqb context 0 z, t) in
         cc
     by-test false t =
-        let no : context_of context ≡ none = rw (ne_eqb context 0 z, t) in
+        let no : context_of context ≡ None = rw (ne_eqb context 0 z, t) in
         cc
 
 -- ---- what the check's number says
@@ -110,24 +110,41 @@ module _ (context : ℕ) (tree : List ℕ) (work : List ℕ) where
     pub typed : Typed
     pub passes : check_of context tree (length work) ≡ done typed
     pub its-context : Context
-    pub context-is : context_of context ≡ some its-context
+    pub context-is : context_of context ≡ Some its-context
     pub room : length work ≡ max_records
 
   with-context : (x : Typed) → check_of context tree (length work) ≡ done x → Passed
   unfolding check_of
   with-context x e = by-context (context_of context) refl
     where
-      by-work : (c : Context) → context_of context ≡ some c → (b : Bool) → eqb (length work) max_records ≡ b → Passed
+      by-work : (c : Context) → context_of context ≡ Some c → (b : Bool) → eqb (length work) max_records ≡ b → Passed
       by-work c k true t = record { typed = x; passes = e; its-context = c; context-is = k; room = eqb-true (length work) max_records t }
       by-work c k false t =
           let no : check_of context tree (length work) ≡ refused bad_work = rw (k, t) in
           absurd (let z : ◌≡◌ {A = ℕ} 0 1 = cc in omega arith)
 
       by-context : (o : Option Context) → context_of context ≡ o → Passed
-      by-context (some c) k = by-work c k (eqb (length work) max_records) refl
-      by-context none k =
+      by-context (Some c) k = by-work c k (eqb (length work) max_records) refl
+      by-context None k =
           let no : check_of context tree (length work) ≡ refused bad_context = rw k in
           absurd (let z : ◌≡◌ {A = ℕ} 0 1 = cc in omega arith)
+
+  -- the check answered a type, or a refusal
+  pub passed-as : {t : «Type»} → done t ≡ type_only (check_of context tree (length work)) → Passed
+  passed-as {t} e = by_answer (check_of context tree (length work)) refl e
+    where
+      by_answer : (a : Answer Typed) → check_of context tree (length work) ≡ a → done t ≡ type_only a → Passed
+      by_answer (refused n) k e = absurd (let z : ◌≡◌ {A = ℕ} 0 1 = cc in omega arith)
+      by_answer (done x) k e = with-context x k
+
+  pub refused-by : {n : ℕ} → refused n ≡ type_only (check_of context tree (length work)) → check_of context tree (length work) ≡ refused n
+  refused-by {n} e = by_answer (check_of context tree (length work)) refl e
+    where
+      by_answer : (a : Answer Typed) → check_of context tree (length work) ≡ a → refused n ≡ type_only a → check_of context tree (length work) ≡ refused n
+      by_answer (refused m) k e =
+          let same : n ≡ m = cc in
+          k ∙ ap refused (sym same)
+      by_answer (done x) k e = absurd (let z : ◌≡◌ {A = ℕ} 0 1 = cc in omega arith)
 
   module _ {number : ℕ} (told : number ≡ number_of (type_only (check_of context tree (length work)))) where
     pub passed : number ≡ 0 → Passed

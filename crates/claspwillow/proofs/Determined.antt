@@ -1,7 +1,7 @@
 -- Each promise determines its outcome. Assumes nothing.
-use mathlib.Core.Path.{◌≡◌, sym, ◌∙◌}
-use Rattle.claspwillow.specs.Promises.{CheckPromise, CheckDetermined, CompilePromise, CompileDetermined, ChoosePromise, ChooseDetermined}
-use Rattle.claspwillow.specs.Promises.{WritePromise, WriteDetermined}
+use mathlib.Core.Path.{sym, ◌∙◌}
+use Rattle.claspwillow.specs.Promises.{CheckDetermined, CompileDetermined, ChooseDetermined}
+use Rattle.claspwillow.specs.Promises.{WriteDetermined}
 
 pub check-determined : CheckDetermined
 check-determined context tree work number number' ty ty' after after' p q =

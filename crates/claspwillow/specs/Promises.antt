@@ -1,6 +1,5 @@
 -- What each public entry promises: document 01, "Numbers the console shows" and "Promises that useless programs break".
-use Rattle.std.specs.Prelude.{ℕ, cond, List, ◌++◌, ◌≡◌, eqb, leb, length, drop}
-use Rattle.std.proofs.Math.Option.{Option, none, some}
+use Rattle.std.specs.Prelude.{ℕ, cond, List, ◌++◌, ◌≡◌, eqb, leb, length, drop, Option, None, Some}
 use Rattle.words.specs.Memory.{zeroed}
 use Rattle.types.specs.declared.«Type».{«Type»}
 use Rattle.costs.specs.Price.{cost_bits, never_flag}
@@ -131,8 +130,8 @@ pub data Writing : Type 0 where
 
 -- what writing gives for the bytes that a memory holds, if any, and so many bytes of room
 abbrev pub writing : Option (List ℕ) → (room : ℕ) → Writing
-writing none room = unwritten BadWork
-writing (some bytes) room = cond (leb (length bytes) room) (wrote bytes) (unwritten OutputTooSmall)
+writing None room = unwritten BadWork
+writing (Some bytes) room = cond (leb (length bytes) room) (wrote bytes) (unwritten OutputTooSmall)
 
 abbrev pub number_of_writing : Writing → ℕ
 number_of_writing (wrote bytes) = 0

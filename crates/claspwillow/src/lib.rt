@@ -4,73 +4,40 @@
 // promise allows are equal, and proofs/CheckLaws.antt what the check tells to the entries above. The parts of compile's entry cite specs/Results.antt.
 #![tactic(auto)]
 
-ghost use Rattle.std.proofs.Math.Option.{some};
-ghost use Rattle.std.specs.Prelude.{◌≡◌, true, length};
+ghost use Rattle.std.specs.Prelude.{◌≡◌, true, length, Some};
 ghost use Rattle.memory.specs.Layout.{work_words};
 ghost use Rattle.trees.specs.Reading.{max_records};
 ghost use Rattle.trees.specs.TreeCheck.{context_of};
-ghost use Rattle.trees.specs.Checked.{answer_of};
 ghost use Rattle.compile.specs.Answers.{Compiles};
 ghost use Rattle.chosen.specs.Form.{most_bytes};
 ghost use Rattle.chosen.specs.Chosen.{all_zero, chosen_of};
-ghost use Rattle.claspwillow.specs.Results.{given_in, number_in, bytes_in, cost_in, never_in, nodes_in, Chooses, Puts, number_put, bytes_put};
-ghost use Rattle.claspwillow.specs.Promises.{number_of, type_number, CheckPromise, given, CompilePromise, choice, ChoosePromise, writing, WritePromise};
+ghost use Rattle.claspwillow.specs.Results.{given_in, number_in, bytes_in, cost_in, never_in, nodes_in, Chooses, Puts};
+ghost use Rattle.claspwillow.specs.Promises.{CheckPromise, given, CompilePromise, choice, ChoosePromise, writing, WritePromise};
 
-use chosen::Held;
-use compile::Answer;
+use compile::Compiled;
 use contexts::Context;
-use trees::Checked;
+use refusals::Refusal;
 
 // The one length of work memory that compile takes, in words.
 const WORK_WORDS: usize = 612_360;
 
-// Document 01's numbers of the two refusals that come before the policy is read.
-const BAD_CONTEXT: u8 = 1;
-
-const BAD_WORK: u8 = 2;
-
-const OUTPUT_TOO_SMALL: u8 = 13;
-
 // What a refusal gives in place of the bytes written, the cost and the nodes used.
 const NOT_GIVEN: u64 = 0;
-
-// Document 01's number of an answer of the tree check.
-fn number(r: Checked) -> u32
-    ensures { result ≡ number_of (answer_of r) }
-{
-    match r {
-        Checked::BadContext => 1,
-        Checked::BadWork => 2,
-        Checked::BadTree => 14,
-        Checked::IllTyped => 15,
-        Checked::TreeTooLarge => 16,
-        Checked::TreeTooTall => 19,
-        Checked::Typed(_) => 0,
-    }
-}
-
-// The packed type of an answer of the tree check, 0 where it is a refusal.
-fn packed_type(r: Checked) -> u32
-    ensures { result ≡ type_number (answer_of r) }
-{
-    match r {
-        Checked::BadContext => 0,
-        Checked::BadWork => 0,
-        Checked::BadTree => 0,
-        Checked::IllTyped => 0,
-        Checked::TreeTooLarge => 0,
-        Checked::TreeTooTall => 0,
-        Checked::Typed(t) => t.pack(),
-    }
-}
 
 // The tree check: document 01's number, and in `ty` the packed type of the root, 0 on a refusal. Work memory is zero afterwards.
 pub fn claspwillow_check(context: u32, tree: &[u8], work: &mut [u64], ty: &mut u32) -> u32
     ensures { CheckPromise context tree.now work.old result ty.new work.new }
 {
-    let r = trees::check(context, tree, work);
-    *ty = packed_type(r);
-    number(r)
+    match trees::check(context, tree, work) {
+        Ok(t) => {
+            *ty = t.pack();
+            0
+        }
+        Err(e) => {
+            *ty = 0;
+            e.number()
+        }
+    }
 }
 
 // The one length of work memory that the tree check takes, in words.
@@ -82,82 +49,76 @@ pub fn claspwillow_check_work() -> usize
 
 // The context that has the number, where one has.
 pub fn context_of(context: u32) -> Context
-    ensures { (x : Context) → context_of context ≡ some x → result ≡ x }
+    ensures { (x : Context) → context_of context ≡ Some x → result ≡ x }
 {
     if context == 0 {
-        return Context::Segwitv0;
+        Context::Segwitv0
+    } else {
+        Context::Tap
     }
-    Context::Tap
 }
 
 // Compiles in a context, where work memory has its one length.
-fn compile_in(context: Context, policy: &[u8], out: &mut [u8], work: &mut [u64]) -> Answer
+fn compile_in(
+    context: Context,
+    policy: &[u8],
+    out: &mut [u8],
+    work: &mut [u64],
+) -> Result<Compiled, Refusal>
     ensures { Compiles (given_in context policy.now out.old work.old) out.old out.new result }
 {
-    if work.len() == WORK_WORDS {
-        return compile::compile(context, policy, out, work);
+    if work.len() != WORK_WORDS {
+        return Err(Refusal::BadWork);
     }
-    Answer::Refused(BAD_WORK)
+    compile::compile(context, policy, out, work)
 }
 
 // Compiles in the context that has the number.
-fn compile_numbered(context: u32, policy: &[u8], out: &mut [u8], work: &mut [u64]) -> Answer
+fn compile_numbered(
+    context: u32,
+    policy: &[u8],
+    out: &mut [u8],
+    work: &mut [u64],
+) -> Result<Compiled, Refusal>
     ensures { Compiles (given context policy.now out.old work.old) out.old out.new result }
 {
     match context {
         0 => compile_in(Context::Segwitv0, policy, out, work),
         1 => compile_in(Context::Tap, policy, out, work),
-        _ => Answer::Refused(BAD_CONTEXT),
+        _ => Err(Refusal::BadContext),
     }
 }
 
-// Document 01's number of an answer of compile.
-fn number_of(r: Answer) -> u32
-    ensures { result ≡ number_in r }
+// Tells what compile gave: document 01's number, and how many bytes were written, the bits of the cost, whether that is never (1, and then the bits
+// are 0) and the nodes used, all four 0 on a refusal.
+fn tell(
+    r: Result<Compiled, Refusal>,
+    bytes: &mut u64,
+    cost: &mut u64,
+    never: &mut u32,
+    nodes: &mut u64,
+) -> u32
+    ensures number { result ≡ number_in r }
+    ensures bytes { bytes.new ≡ bytes_in r }
+    ensures cost { cost.new ≡ cost_in r }
+    ensures never { never.new ≡ never_in r }
+    ensures nodes { nodes.new ≡ nodes_in r }
 {
     match r {
-        Answer::Compiled(_, _, _, _) => 0,
-        Answer::Refused(n) => n as u32,
-    }
-}
-
-// How many bytes an answer of compile wrote, 0 where it is a refusal.
-fn bytes_of(r: Answer) -> u64
-    ensures { result ≡ bytes_in r }
-{
-    match r {
-        Answer::Compiled(bytes, _, _, _) => bytes as u64,
-        Answer::Refused(_) => NOT_GIVEN,
-    }
-}
-
-// The bits of the cost of an answer of compile, 0 where it is never and where it is a refusal.
-fn cost_of(r: Answer) -> u64
-    ensures { result ≡ cost_in r }
-{
-    match r {
-        Answer::Compiled(_, cost, _, _) => cost,
-        Answer::Refused(_) => NOT_GIVEN,
-    }
-}
-
-// 1 where an answer of compile costs never, else 0.
-fn never_of(r: Answer) -> u32
-    ensures { result ≡ never_in r }
-{
-    match r {
-        Answer::Compiled(_, _, never, _) => never,
-        Answer::Refused(_) => 0,
-    }
-}
-
-// How many nodes an answer of compile used, 0 where it is a refusal.
-fn nodes_of(r: Answer) -> u64
-    ensures { result ≡ nodes_in r }
-{
-    match r {
-        Answer::Compiled(_, _, _, nodes) => nodes as u64,
-        Answer::Refused(_) => NOT_GIVEN,
+        Ok(c) => {
+            *bytes = c.bytes as u64;
+            *cost = c.cost;
+            *never = c.never;
+            *nodes = c.nodes as u64;
+            0
+        }
+        Err(e) => {
+            *bytes = NOT_GIVEN;
+            *cost = NOT_GIVEN;
+            *never = 0;
+            *nodes = NOT_GIVEN;
+            e.number()
+        }
     }
 }
 
@@ -177,11 +138,7 @@ pub fn claspwillow_compile(
 {
     let r = compile_numbered(context, policy, out, work);
     words::clear(work);
-    *bytes = bytes_of(r);
-    *cost = cost_of(r);
-    *never = never_of(r);
-    *nodes = nodes_of(r);
-    number_of(r)
+    tell(r, bytes, cost, never, nodes)
 }
 
 // The one length of work memory that compile takes, in words.
@@ -191,32 +148,30 @@ pub fn claspwillow_compile_work() -> usize
     WORK_WORDS
 }
 
-// How many bytes were written, or the number of a refusal.
-#[derive(Clone, Copy)]
-enum Put {
-    Bytes(usize),
-    Refused(u8),
-}
-
 // Chooses the tree of a policy and leaves its bytes in work memory. They go through an output of zeros that has room for every tree that may be chosen.
-fn choose_through(context: u32, policy: &[u8], out: &mut [u8], work: &mut [u64]) -> Answer
+fn choose_through(
+    context: u32,
+    policy: &[u8],
+    out: &mut [u8],
+    work: &mut [u64],
+) -> Result<Compiled, Refusal>
     requires { (length out.old ≡ most_bytes) × (all_zero out.old ≡ true) }
     ensures { Chooses (choice context policy.now work.old) work.old work.new result }
 {
     match compile_numbered(context, policy, out, work) {
-        Answer::Compiled(bytes, cost, never, nodes) => {
-            chosen::hold(out, bytes, work);
-            Answer::Compiled(bytes, cost, never, nodes)
+        Ok(c) => {
+            chosen::hold(out, c.bytes, work);
+            Ok(c)
         }
-        Answer::Refused(n) => {
+        Err(e) => {
             words::clear(work);
-            Answer::Refused(n)
+            Err(e)
         }
     }
 }
 
 // Chooses the tree of a policy and leaves its bytes in work memory.
-fn choose(context: u32, policy: &[u8], work: &mut [u64]) -> Answer
+fn choose(context: u32, policy: &[u8], work: &mut [u64]) -> Result<Compiled, Refusal>
     ensures { Chooses (choice context policy.now work.old) work.old work.new result }
 {
     let mut out = [0u8; 557056];
@@ -237,11 +192,7 @@ pub fn claspwillow_choose(
     ensures { ChoosePromise context policy.now work.old result bytes.new cost.new never.new nodes.new work.new }
 {
     let r = choose(context, policy, work);
-    *bytes = bytes_of(r);
-    *cost = cost_of(r);
-    *never = never_of(r);
-    *nodes = nodes_of(r);
-    number_of(r)
+    tell(r, bytes, cost, never, nodes)
 }
 
 // The one length of work memory that the choice takes, in words.
@@ -252,39 +203,17 @@ pub fn claspwillow_choose_work() -> usize
 }
 
 // Writes the tree that a memory holds, where it fits.
-fn put_held(out: &mut [u8], work: &[u64]) -> Put
+fn put_held(out: &mut [u8], work: &[u64]) -> Result<usize, Refusal>
     ensures { Puts (writing (chosen_of work.now) (length out.old)) out.old out.new result }
 {
-    match chosen::tree_in(work) {
-        Held::Nothing => Put::Refused(BAD_WORK),
-        Held::Bytes(n) => {
-            if out.len() < n {
-                return Put::Refused(OUTPUT_TOO_SMALL);
-            }
-            chosen::write(work, n, out);
-            Put::Bytes(n)
-        }
+    let Some(n) = chosen::tree_in(work) else {
+        return Err(Refusal::BadWork);
+    };
+    if out.len() < n {
+        return Err(Refusal::OutputTooSmall);
     }
-}
-
-// How many bytes were written, 0 on a refusal.
-fn bytes_put(r: Put) -> u64
-    ensures { result ≡ bytes_put r }
-{
-    match r {
-        Put::Bytes(n) => n as u64,
-        Put::Refused(_) => NOT_GIVEN,
-    }
-}
-
-// Document 01's number of what writing came to.
-fn number_put(r: Put) -> u32
-    ensures { result ≡ number_put r }
-{
-    match r {
-        Put::Bytes(_) => 0,
-        Put::Refused(n) => n as u32,
-    }
+    chosen::write(work, n, out);
+    Ok(n)
 }
 
 // Writes the tree that work memory holds, whoever filled it: document 01's number, the records of the tree in `out` and how many bytes they are, 0 on a
@@ -294,8 +223,16 @@ pub fn claspwillow_write(out: &mut [u8], work: &mut [u64], bytes: &mut u64) -> u
 {
     let r = put_held(out, work);
     words::clear(work);
-    *bytes = bytes_put(r);
-    number_put(r)
+    match r {
+        Ok(n) => {
+            *bytes = n as u64;
+            0
+        }
+        Err(e) => {
+            *bytes = NOT_GIVEN;
+            e.number()
+        }
+    }
 }
 
 // The one length of work memory that the writing takes, in words.

@@ -1,8 +1,9 @@
 -- Classes are equal exactly where the policies are. Assumes nothing.
+use Rattle.refusals.specs.declared.Refusal.{Refusal}
 use mathlib.Core.Path.{◌≡◌, refl, sym, ◌∙◌, ap, subst}
 use mathlib.Core.Bool.{Bool, true, false}
 use mathlib.Core.List.{List}
-use mathlib.Core.Option.{some}
+use Rattle.std.specs.Prelude.{Some, Result, Ok, Err}
 use Prim.Native.Nat.{ℕ, ◌<◌}
 use native.Mathlib.Omega.{arith}
 use borrow.Author.Tests.{ltb-true, ltb-false}
@@ -11,8 +12,6 @@ use Rattle.policies.specs.Reading.{done}
 use Rattle.policies.specs.Policy.{Policy}
 use Rattle.policies.specs.Array.{policy_at, Good, Named}
 use Rattle.policies.specs.Answers.{PolicyGood, PolicyRead, reads, bad-array}
-use Rattle.policies.specs.declared.ReadPolicy.{ReadPolicy}
-use Rattle.policies.specs.declared.ReadPolicy.TheVariants as ReadPolicy
 use Rattle.classes.specs.Classes.{Least, class_at, Classes, Classified, ClassesGood, ClassesRead}
 
 not-less : (m : List ℕ) (r q c d : ℕ) → policy_at m r ≡ policy_at m q → Least m r c → Least m q d → c < d → ⊥
@@ -38,36 +37,33 @@ module _ (m : List ℕ) (classes : Classes m) (r q : ℕ) (nr : Named m r) (nq :
 
 -- ---- a policy read
 
-root-good : (r : ReadPolicy) (i : ℕ) (m : List ℕ) → r ≡ ReadPolicy.Root i → PolicyGood r m → Good m × (i < 64)
-root-good (ReadPolicy.Root j) i m e g =
+root-good : (r : Result ℕ Refusal) (i : ℕ) (m : List ℕ) → r ≡ Ok i → PolicyGood r m → Good m × (i < 64)
+root-good (Ok j) i m e g =
     let same : j ≡ i = cc in
     (g.0, omega (arith, g.1))
-root-good ReadPolicy.BadPolicy i m e g = absurd (let z : ◌≡◌ {A = ℕ} 0 1 = cc in omega arith)
-root-good ReadPolicy.ZeroWeight i m e g = absurd (let z : ◌≡◌ {A = ℕ} 0 1 = cc in omega arith)
-root-good ReadPolicy.PolicyTooLarge i m e g = absurd (let z : ◌≡◌ {A = ℕ} 0 1 = cc in omega arith)
-root-good ReadPolicy.BadArray i m e g = absurd (let z : ◌≡◌ {A = ℕ} 0 1 = cc in omega arith)
+root-good (Err r) i m e g = absurd (let z : ◌≡◌ {A = ℕ} 0 1 = cc in omega arith)
 
-module _ (bytes m₀ m : List ℕ) {r : ReadPolicy} (read : PolicyRead bytes m₀ r m) where
+module _ (bytes m₀ m : List ℕ) {r : Result ℕ Refusal} (read : PolicyRead bytes m₀ r m) where
   -- what was read at a root holds a policy
-  pub read-good : (i : ℕ) → r ≡ ReadPolicy.Root i → Good m
+  pub read-good : (i : ℕ) → r ≡ Ok i → Good m
   read-good i e = of-read read
     where
       of-read : PolicyRead bytes m₀ r m → Good m
       of-read (reads long x) = (root-good r i m e x.good).0
       of-read (bad-array ne q) = absurd (let z : ◌≡◌ {A = ℕ} 0 1 = cc in omega arith)
 
-  pub classes-root : (i : ℕ) → r ≡ ReadPolicy.Root i → (m₂ : List ℕ) → Classified m m₂ → ClassesRead bytes m₀ (ReadPolicy.Root i) m₂
+  pub classes-root : (i : ℕ) → r ≡ Ok i → (m₂ : List ℕ) → Classified m m₂ → ClassesRead bytes m₀ (Ok i) m₂
   classes-root i e m₂ classified = record { read = of-read read; classes = classified.class }
     where
-      of-read : PolicyRead bytes m₀ r m → PolicyRead bytes m₀ (ReadPolicy.Root i) m₂
+      of-read : PolicyRead bytes m₀ r m → PolicyRead bytes m₀ (Ok i) m₂
       of-read (reads long x) =
           reads long
           (record {
-            says = x.says ∙ rw e (ap (λ (p : Policy). some (done p)) (sym (classified.kept i)));
+            says = x.says ∙ rw e (ap (λ (p : Policy). Some (done p)) (sym (classified.kept i)));
             good = (classified.good, (root-good r i m e x.good).1);
           })
       of-read (bad-array ne q) = absurd (let z : ◌≡◌ {A = ℕ} 0 1 = cc in omega arith)
 
   -- a refusal stays what it was
-  pub classes-refused : (s : ReadPolicy) → r ≡ s → ClassesGood s m → ClassesRead bytes m₀ s m
-  classes-refused s e none = record { read = subst (λ (x : ReadPolicy). PolicyRead bytes m₀ x m) e read; classes = none }
+  pub classes-refused : {e : Refusal} → r ≡ Err e → ClassesRead bytes m₀ (Err e) m
+  classes-refused q = record { read = subst (λ (x : Result ℕ Refusal). PolicyRead bytes m₀ x m) q read; classes = tt }

@@ -1,10 +1,9 @@
 -- Classes of equal policies: document 01, "Modules, leaves first", 7 (tables are remembered by policy structure), for the numbers of the
 -- array that a policy is read into. Assumes nothing: these are definitions.
-use Rattle.std.specs.Prelude.{Bool, true, false, cond, List, ◌≡◌, ℕ, ◌+◌, ◌*◌, ◌<◌, ltb, length, get_or}
+use Rattle.refusals.specs.declared.Refusal.{Refusal}
+use Rattle.std.specs.Prelude.{Bool, true, false, cond, List, ◌≡◌, ℕ, ◌+◌, ◌*◌, ◌<◌, ltb, length, get_or, Result, Ok, Err}
 use Rattle.policies.specs.Reading.{max_records}
 use Rattle.policies.specs.Answers.{PolicyRead}
-use Rattle.policies.specs.declared.ReadPolicy.{ReadPolicy}
-use Rattle.policies.specs.declared.ReadPolicy.TheVariants as ReadPolicy
 use Rattle.policies.specs.Array.{row_words, of_record, place, word_at, policy_at, Good, Named}
 
 -- an answer decides a fact
@@ -59,13 +58,10 @@ pub record Classified (m₀ m : List ℕ) : Type 0 where
 
 -- ---- a policy read, every number of it with its class
 
-abbrev pub ClassesGood : ReadPolicy → List ℕ → Type 0
-ClassesGood (ReadPolicy.Root i) m = Classes m
-ClassesGood ReadPolicy.BadPolicy m = Unit {0}
-ClassesGood ReadPolicy.ZeroWeight m = Unit {0}
-ClassesGood ReadPolicy.PolicyTooLarge m = Unit {0}
-ClassesGood ReadPolicy.BadArray m = Unit {0}
+abbrev pub ClassesGood : Result ℕ Refusal → List ℕ → Type 0
+ClassesGood (Ok i) m = Classes m
+ClassesGood (Err r) m = Unit {0}
 
-pub record ClassesRead (bytes m₀ : List ℕ) (r : ReadPolicy) (m : List ℕ) : Type 0 where
+pub record ClassesRead (bytes m₀ : List ℕ) (r : Result ℕ Refusal) (m : List ℕ) : Type 0 where
   pub read : PolicyRead bytes m₀ r m
   pub classes : ClassesGood r m

@@ -8,7 +8,8 @@ ghost use Rattle.std.specs.Prelude.{◌≡◌, ◌<◌};
 ghost use Rattle.policies.specs.Array.{policy_at, Good, Named};
 ghost use Rattle.classes.specs.Classes.{Decides, Stands, Least, ClassPut, max_numbers, class_place, class_at, Classified, ClassesRead};
 
-use policies::{Head, ReadPolicy};
+use policies::Head;
+use refusals::Refusal;
 
 // The numbers below 64 are those of records; sixteen for each record follow, of the Ands over its children.
 const MAX_RECORDS: usize = 64;
@@ -60,14 +61,12 @@ pub fn same(pol: &[u64], r: usize, q: usize) -> bool
         return false;
     }
     let n = a.count;
-    let mut j = 0;
-    while j < n {
+    for j in 0..n {
         let x = policies::child(pol, r, j);
         let y = policies::child(pol, q, j);
         if !same(pol, x, y) {
             return false;
         }
-        j += 1;
     }
     true
 }
@@ -104,12 +103,10 @@ fn find_class(pol: &[u64], r: usize) -> usize
     requires { Good pol.now × Named pol.now r }
     ensures { Least pol.now r result }
 {
-    let mut c = 0;
-    while c < r {
+    for c in 0..r {
         if is_same(pol, c, r) {
             return c;
         }
-        c += 1;
     }
     r
 }
@@ -157,25 +154,16 @@ pub fn classify(pol: &mut [u64])
     requires { Good pol.old }
     ensures { Classified pol.old pol.new }
 {
-    let mut r = 0;
-    while r < MAX_NUMBERS {
+    for r in 0..MAX_NUMBERS {
         put_class(pol, r);
-        r += 1;
     }
 }
 
 // Reads a policy into the array that is lent, with the class of every number.
-pub fn read_classified(bytes: &[u8], pol: &mut [u64]) -> ReadPolicy
+pub fn read_classified(bytes: &[u8], pol: &mut [u64]) -> Result<usize, Refusal>
     ensures { ClassesRead bytes.now pol.old result pol.new }
 {
-    match policies::read_policy(bytes, pol) {
-        ReadPolicy::BadPolicy => ReadPolicy::BadPolicy,
-        ReadPolicy::ZeroWeight => ReadPolicy::ZeroWeight,
-        ReadPolicy::PolicyTooLarge => ReadPolicy::PolicyTooLarge,
-        ReadPolicy::BadArray => ReadPolicy::BadArray,
-        ReadPolicy::Root(i) => {
-            classify(pol);
-            ReadPolicy::Root(i)
-        }
-    }
+    let root = policies::read_policy(bytes, pol)?;
+    classify(pol);
+    Ok(root)
 }

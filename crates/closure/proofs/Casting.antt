@@ -1,5 +1,7 @@
 -- The ten casts of a node in turn: the casts that are still to come, on what waits by then, give what all ten give on what waited before the
 -- first. Assumes nothing.
+use Rattle.refusals.specs.declared.Refusal.{Refusal}
+use Rattle.std.specs.Prelude.{Result, Ok, Err}
 use mathlib.Core.Path.{◌≡◌, refl, sym, ◌∙◌, ap}
 use mathlib.Core.List.{List}
 use mathlib.Core.Bool.{false}
@@ -23,8 +25,6 @@ use Rattle.nodes.proofs.Casts.{casts-from}
 use Rattle.table.specs.declared.Table.{Table}
 use Rattle.table.specs.Rows.{TableHolds}
 use Rattle.table.specs.Inserted.{state_of, Extends}
-use Rattle.closure.specs.declared.End.{End}
-use Rattle.closure.specs.declared.End.TheVariants.{Done, Refused}
 use Rattle.closure.specs.declared.Closed.{Closed}
 use Rattle.closure.specs.Closed.{answer, OfferedCast, OfferedCasts}
 use Rattle.closure.specs.Typing.{is_typed, cast_type}
@@ -50,7 +50,7 @@ module _ (c : Context) (p : Probs) {e : ℕ} {t₀ : Table} {m₀ : List ℕ} wh
   casting-begins holds table = record { says = λ pol ts h le. refl; extends = extends-refl holds; table = table }
 
   pub casting-ends : {t : Table} {m : List ℕ} {number : ℕ} → Casting c p e t₀ m₀ number t m → 10 ≤ number → number ≤ 10 →
-      OfferedCasts c p e t₀ (closed t Done) m₀ m
+      OfferedCasts c p e t₀ (closed t (Ok tt)) m₀ m
   casting-ends {t} {m} {number} i ge le =
       let is : number ≡ 10 = omega arith in
       record {
@@ -76,26 +76,27 @@ module _ (c : Context) (p : Probs) {e : ℕ} {t₀ : Table} {m₀ : List ℕ} wh
         (sym (seen-kept holds i.extends.grows pol e l))
         ∙ ap (λ (a : Res Queued). then a (others c p pol m₀ e number)) (one.says pol ts h (omega (arith, i.extends.grows.more)))
 
-    pub casting-refused : {n : ℕ} → r.end ≡ Refused n → OfferedCasts c p e t₀ (closed r.table (Refused n)) m₀ m'
+    pub casting-refused : {n : Refusal} → r.end ≡ Err n → OfferedCasts c p e t₀ r m₀ m'
     casting-refused is =
         record {
           says =
               λ pol ts h le.
               sym (i.says pol ts h le)
               ∙ step pol ts h le
-              ∙ then-refused (others c p pol m₀ e number) (ap (λ (end : End). answer end (queue_at pol m' r.table h) (state_of m' ts)) is);
+              ∙ then-refused (others c p pol m₀ e number) (ap (λ (end : Result (Unit {0}) Refusal). answer end (queue_at pol m' r.table h) (state_of m' ts)) is)
+              ∙ sym (ap (λ (end : Result (Unit {0}) Refusal). answer end (queue_at pol m' r.table h) (state_of m' ts)) is);
           extends = extends-trans i.extends one.extends;
           table = one.table;
         }
 
-    pub casting-goes-on : r.end ≡ Done → Casting c p e t₀ m₀ (number + 1) r.table m'
+    pub casting-goes-on : r.end ≡ (Ok tt) → Casting c p e t₀ m₀ (number + 1) r.table m'
     casting-goes-on is =
         record {
           says =
               λ pol ts h le.
               ap (λ (n : ℕ). cast_all c p (seen pol m₀ e) (drop n (all_casts c)) (queue_at pol m' r.table h) (state_of m' ts)) (add-one number)
               ∙ sym (step pol ts h le
-              ∙ then-done (others c p pol m₀ e number) (ap (λ (end : End). answer end (queue_at pol m' r.table h) (state_of m' ts)) is))
+              ∙ then-done (others c p pol m₀ e number) (ap (λ (end : Result (Unit {0}) Refusal). answer end (queue_at pol m' r.table h) (state_of m' ts)) is))
               ∙ i.says pol ts h le;
           extends = extends-trans i.extends one.extends;
           table = one.table;
@@ -110,7 +111,7 @@ module _ (c : Context) (p : Probs) {e : ℕ} {t₀ : Table} {m₀ : List ℕ} wh
   -- what the arms of the loop leave
   module _ (holds : Holds m₀) (l : e < node_count m₀) {t : Table} {m : List ℕ} {number : ℕ} (i : Casting c p e t₀ m₀ number t m) (few : number < 10)
       {t' : Table} {m' : List ℕ} where
-    pub casting-offered : {r : Closed} {m₁ : List ℕ} → OfferedCast c p e number t r m m₁ → r.end ≡ Done → m' ≡ m₁ → t' ≡ r.table
+    pub casting-offered : {r : Closed} {m₁ : List ℕ} → OfferedCast c p e number t r m m₁ → r.end ≡ (Ok tt) → m' ≡ m₁ → t' ≡ r.table
         → Casting c p e t₀ m₀ (number + 1) t' m'
     casting-offered one done work table = rw (work, table) (casting-goes-on holds l i few one done)
 

@@ -1,9 +1,9 @@
 -- The closure, element by element: what is still to be popped, with the pops that are left, gives what the closure gives from its start.
 -- Assumes nothing.
+use Rattle.refusals.specs.declared.Refusal.{Refusal}
 use mathlib.Core.Path.{◌≡◌, refl, sym, ◌∙◌, ap}
 use mathlib.Core.List.{List}
-use mathlib.Core.Logic.{◌⊎◌, ⊎_elim, inr}
-use mathlib.Core.Option.{some}
+use Rattle.std.specs.Prelude.{Some, Result, Ok, Err}
 use Prim.Native.Nat.{ℕ, suc, ◌+◌, ◌-◌, ◌<◌, ◌≤◌}
 use native.Mathlib.Omega.{arith}
 use Rattle.contexts.specs.declared.Context.{Context}
@@ -11,7 +11,7 @@ use Rattle.candidates.specs.declared.Candidate as code
 use Rattle.definition.specs.Candidates.{Candidate, all_casts}
 use Rattle.definition.specs.Tables as definition
 use Rattle.definition.specs.Tables.{Probs}
-use Rattle.definition.specs.Refusals.{Stored, Res, then, max_pops, FuelSpent}
+use Rattle.definition.specs.Refusals.{Stored, Res, then, max_pops}
 use Rattle.definition.specs.Insertion.{Queued, queued, offer, cast_all, closure, insert_closure}
 use Rattle.definition_laws.proofs.Steps.{then-done, then-refused, closure-nobody, closure-spent, closure-pops, insert_closure-is}
 use Rattle.memory.specs.Layout.{node_count}
@@ -19,16 +19,14 @@ use Rattle.nodes.specs.Views.{seen, offered}
 use Rattle.nodes.specs.Answers.{Holds}
 use Rattle.table.specs.declared.Table.{Table}
 use Rattle.table.specs.declared.Step.{Step}
-use Rattle.table.specs.declared.Offer.TheVariants as Offer
+use Rattle.table.specs.declared.Offer.{Offer}
 use Rattle.table.specs.Rows.{TableHolds}
 use Rattle.table.specs.Inserted.{state_of, seen_table, Extends, Inserted}
-use Rattle.closure.specs.declared.End.{End}
-use Rattle.closure.specs.declared.End.TheVariants.{Done, Refused}
 use Rattle.closure.specs.declared.Closed.{Closed}
 use Rattle.closure.specs.Closed.{waiting, answer, OfferedCasts, Closes}
 use Rattle.closure.proofs.Waiting.{queue_at, waiting_none, waiting-next}
 use Rattle.table.proofs.Kept.{extends-refl, extends-trans}
-use Rattle.closure.proofs.Offering.{closed, offer-entered, offer-turned, offer-refused}
+use Rattle.closure.proofs.Offering.{closed, offer-accepted, offer-refused}
 
 -- what the closure gives while the nodes from h on wait
 abbrev pub closure_at : Context → Probs → (pops : ℕ) → (pol : List ℕ) → Table → (h : ℕ) → (m : List ℕ) → List Stored → Res definition.Table
@@ -52,14 +50,14 @@ pub record Begins (c : Context) (p : Probs) (x : code.Candidate) (t : Table) (m�
 -- nobody waits before the first offer
 insert-first : (c : Context) (p : Probs) (x : code.Candidate) (t : Table) (pol m : List ℕ) (ts : List Stored) →
     insert_closure c p (offered pol m x) (seen_table pol m t) (state_of m ts)
-    ≡ then (offer c p (some (offered pol m x)) (queue_at pol m t (node_count m)) (state_of m ts)) (closure c p max_pops)
+    ≡ then (offer c p (Some (offered pol m x)) (queue_at pol m t (node_count m)) (state_of m ts)) (closure c p max_pops)
 insert-first c p x t pol m ts =
     insert_closure-is c p (offered pol m x) (seen_table pol m t) (state_of m ts)
-    ∙ ap (λ (q : List Candidate). then (offer c p (some (offered pol m x)) (queued (seen_table pol m t) q) (state_of m ts)) (closure c p max_pops))
+    ∙ ap (λ (q : List Candidate). then (offer c p (Some (offered pol m x)) (queued (seen_table pol m t) q) (state_of m ts)) (closure c p max_pops))
     (sym (waiting_none pol m (node_count m) (omega arith)))
 
 module _ (c : Context) (p : Probs) {x : code.Candidate} {t : Table} {step : Step} {m₀ m₁ : List ℕ} (ins : Inserted c p x t step m₀ m₁) where
-  pub insert-refused : {n : ℕ} → step.offer ≡ Offer.Refused n → Closes c p x t (closed step.table (Refused n)) m₀ m₁
+  pub insert-refused : {n : Refusal} → step.offer ≡ Err n → Closes c p x t (closed step.table (Err n)) m₀ m₁
   insert-refused is =
       record {
         says =
@@ -70,18 +68,15 @@ module _ (c : Context) (p : Probs) {x : code.Candidate} {t : Table} {step : Step
         table = ins.table;
       }
 
-  pub closure-begins : Holds m₀ → (step.offer ≡ Offer.Entered) ⊎ (step.offer ≡ Offer.TurnedAway) → {first : ℕ} → first ≡ node_count m₀ →
+  pub closure-begins : Holds m₀ → {o : Offer} → step.offer ≡ Ok o → {first : ℕ} → first ≡ node_count m₀ →
       Begins c p x t m₀ first step.table m₁
-  closure-begins holds is {first} at =
+  closure-begins holds {o} is {first} at =
       record {
         says =
             λ pol ts.
             insert-first c p x t pol m₀ ts
             ∙ then-done (closure c p max_pops)
-            (⊎_elim
-            (λ o. offer-entered c p ins holds o pol ts (node_count m₀) (omega arith))
-            (λ o. offer-turned c p ins holds o pol ts (node_count m₀) (omega arith))
-            is)
+            (offer-accepted c p ins holds is pol ts (node_count m₀) (omega arith))
             ∙ ap (λ (h : ℕ). closure_at c p max_pops pol step.table h m₁ ts) (sym at);
         extends = ins.extends;
         table = ins.table;
@@ -103,7 +98,7 @@ module _ (c : Context) (p : Probs) {first : ℕ} {t₁ : Table} {m₁ : List ℕ
   module _ {t : Table} {m : List ℕ} {pops : ℕ} (i : Closing c p first t₁ m₁ pops t m) {x : code.Candidate} {t₀ : Table} {m₀ : List ℕ}
       (b : Begins c p x t₀ m₀ first t₁ m₁) where
     -- nobody waits
-    pub closing-ends : node_count m ≤ first + pops → Closes c p x t₀ (closed t Done) m₀ m
+    pub closing-ends : node_count m ≤ first + pops → Closes c p x t₀ (closed t (Ok tt)) m₀ m
     closing-ends none =
         record {
           says =
@@ -118,7 +113,7 @@ module _ (c : Context) (p : Probs) {first : ℕ} {t₁ : Table} {m₁ : List ℕ
         }
 
     -- somebody waits, and no pop is left
-    pub closing-spent : first + pops < node_count m → pops ≡ max_pops → Closes c p x t₀ (closed t (Refused FuelSpent)) m₀ m
+    pub closing-spent : first + pops < node_count m → pops ≡ max_pops → Closes c p x t₀ (closed t (Err Refusal.FuelSpent)) m₀ m
     closing-spent l is =
         let none_left : max_pops - pops ≡ 0 = omega arith in
         record {
@@ -151,7 +146,7 @@ module _ (c : Context) (p : Probs) {first : ℕ} {t₁ : Table} {m₁ : List ℕ
         (sym at)
         ∙ ap (λ (a : Res Queued). then a (closure c p (max_pops - suc pops))) (all.says pol ts (suc (first + pops)) (omega arith))
 
-    pub closing-goes-on : r.end ≡ Done → Closing c p first t₁ m₁ (pops + 1) r.table m'
+    pub closing-goes-on : r.end ≡ (Ok tt) → Closing c p first t₁ m₁ (pops + 1) r.table m'
     closing-goes-on is =
         record {
           says =
@@ -160,15 +155,15 @@ module _ (c : Context) (p : Probs) {first : ℕ} {t₁ : Table} {m₁ : List ℕ
               ∙ ap (λ (h : ℕ). closure_at c p (max_pops - suc pops) pol r.table h m' ts) (omega arith)
               ∙ sym (pop pol ts
               ∙ then-done (closure c p (max_pops - suc pops))
-              (ap (λ (end : End). answer end (queue_at pol m' r.table (suc (first + pops))) (state_of m' ts)) is))
+              (ap (λ (end : Result (Unit {0}) Refusal). answer end (queue_at pol m' r.table (suc (first + pops))) (state_of m' ts)) is))
               ∙ i.says pol ts;
           extends = extends-trans i.extends all.extends;
           table = all.table;
           few = omega arith;
         }
 
-    pub closing-refused : {n : ℕ} → r.end ≡ Refused n → {x : code.Candidate} {t₀ : Table} {m₀ : List ℕ} → Begins c p x t₀ m₀ first t₁ m₁ →
-        Closes c p x t₀ (closed r.table (Refused n)) m₀ m'
+    pub closing-refused : {n : Refusal} → r.end ≡ Err n → {x : code.Candidate} {t₀ : Table} {m₀ : List ℕ} → Begins c p x t₀ m₀ first t₁ m₁ →
+        Closes c p x t₀ r m₀ m'
     closing-refused is b =
         record {
           says =
@@ -177,13 +172,14 @@ module _ (c : Context) (p : Probs) {first : ℕ} {t₁ : Table} {m₁ : List ℕ
               ∙ sym (i.says pol ts)
               ∙ pop pol ts
               ∙ then-refused (closure c p (max_pops - suc pops))
-              (ap (λ (end : End). answer end (queue_at pol m' r.table (suc (first + pops))) (state_of m' ts)) is);
+              (ap (λ (end : Result (Unit {0}) Refusal). answer end (queue_at pol m' r.table (suc (first + pops))) (state_of m' ts)) is)
+              ∙ sym (ap (λ (end : Result (Unit {0}) Refusal). answer end (seen_table pol m' r.table) (state_of m' ts)) is);
           extends = extends-trans b.extends (extends-trans i.extends all.extends);
           table = all.table;
         }
 
 -- a candidate that is turned away makes nobody wait
 pub turned-closes : (c : Context) (p : Probs) {x : code.Candidate} {t : Table} {m : List ℕ} → Holds m → TableHolds m t
-    → Inserted c p x t (record { table = t; offer = Offer.TurnedAway }) m m → Closes c p x t (closed t Done) m m
+    → Inserted c p x t (record { table = t; offer = Ok Offer.TurnedAway }) m m → Closes c p x t (closed t (Ok tt)) m m
 turned-closes c p {m = m} holds table ins =
-    closing-ends c p (closing-begins c p holds table) (closure-begins c p ins holds (inr refl) refl) (omega arith)
+    closing-ends c p (closing-begins c p holds table) (closure-begins c p ins holds refl refl) (omega arith)

@@ -1,6 +1,8 @@
 -- What the closure of casts leaves, by its definition (definition, specs/Insertion.antt) on what nodes stand for. Acceptances take nodes one after
 -- another, so the candidates that wait are the nodes from some number on. Assumes nothing.
-use Rattle.std.specs.Prelude.{List, [], ◌∷◌, ◌≡◌, ℕ, zero, suc, ◌-◌, ◌≤◌}
+use Rattle.refusals.specs.Numbers.{number_of}
+use Rattle.refusals.specs.declared.Refusal.{Refusal}
+use Rattle.std.specs.Prelude.{List, [], ◌∷◌, ◌≡◌, ℕ, zero, suc, ◌-◌, ◌≤◌, Result, Ok, Err}
 use Rattle.contexts.specs.declared.Context.{Context}
 use Rattle.candidates.specs.declared.Candidate as code
 use Rattle.definition.specs.Candidates.{all_casts, cast_no}
@@ -13,8 +15,6 @@ use Rattle.nodes.specs.Views.{seen, seen_all, offered}
 use Rattle.table.specs.declared.Table.{Table}
 use Rattle.table.specs.Rows.{TableHolds}
 use Rattle.table.specs.Inserted.{state_of, seen_table, Extends}
-use Rattle.closure.specs.declared.End.{End}
-use Rattle.closure.specs.declared.End.TheVariants.{Done, Refused}
 use Rattle.closure.specs.declared.Closed.{Closed}
 
 -- n numbers from h on
@@ -26,9 +26,9 @@ numbers_from h (suc n) = h ∷ numbers_from (suc h) n
 abbrev pub waiting : (pol m : List ℕ) → (h : ℕ) → definition.Table
 waiting pol m h = seen_all pol m (numbers_from h (node_count m - h))
 
-abbrev pub answer : {A : Type 0} → End → A → State → Res A
-answer Done a s = done a s
-answer (Refused n) a s = refused n
+abbrev pub answer : {A : Type 0} → Result (Unit {0}) Refusal → A → State → Res A
+answer (Ok tt) a s = done a s
+answer (Err n) a s = refused (number_of n)
 
 -- one cast of node e, offered while the nodes from h on wait
 pub record OfferedCast (c : Context) (p : Probs) (e number : ℕ) (t : Table) (r : Closed) (m₀ m : List ℕ) : Type 0 where

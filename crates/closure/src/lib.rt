@@ -15,31 +15,23 @@ ghost use Rattle.table.specs.Rows.{TableHolds};
 ghost use Rattle.closure.specs.Typing.{is_typed, cast_type};
 ghost use Rattle.closure.specs.Closed.{OfferedCast, OfferedCasts, Closes};
 
-use candidates::{Candidate, CastResult};
+use candidates::Candidate;
 use contexts::Context;
-use costs::DissatProb;
-use table::{Offer, Table};
-use types::{Type, TypeResult};
+use correctness::TypeError;
+use refusals::Refusal;
+use table::Table;
+use types::Type;
 
 // The casts, and the most elements that one closure pops.
 const CASTS: u8 = 10;
 
 const MAX_POPS: usize = 4096;
 
-// Document 01's refusal for one element more.
-const FUEL_SPENT: u8 = 9;
-
-// How offers ended: all were taken or turned away, or one was refused with a number of document 01.
-#[derive(Clone, Copy)]
-pub enum End {
-    Done,
-    Refused(u8),
-}
-
+// What a closure leaves: the table, and whether it was refused.
 #[derive(Clone, Copy)]
 pub struct Closed {
     pub table: Table,
-    pub end: End,
+    pub end: Result<(), Refusal>,
 }
 
 // The cast of a number of node e is offered.
@@ -47,7 +39,7 @@ fn offer_cast(
     context: Context,
     work: &mut [u64],
     sat: f64,
-    dissat: DissatProb,
+    dissat: Option<f64>,
     e: u16,
     number: u8,
     t: Table,
@@ -56,41 +48,30 @@ fn offer_cast(
     ensures { OfferedCast context (probs sat dissat) e number t result work.old work.new }
 {
     let x = nodes::node(work, e);
-    match x.cast(context, e, number) {
-        CastResult::Cast(y) => {
-            let step = table::insert(context, work, sat, dissat, y, t);
-            let table = step.table;
-            let offer = step.offer;
-            match offer {
-                Offer::Entered => Closed {
-                    table,
-                    end: End::Done,
-                },
-                Offer::TurnedAway => Closed {
-                    table,
-                    end: End::Done,
-                },
-                Offer::Refused(n) => Closed {
-                    table,
-                    end: End::Refused(n),
-                },
-            }
-        }
-        CastResult::IllTyped => Closed {
+    let Ok(y) = x.cast(context, e, number) else {
+        return Closed {
             table: t,
-            end: End::Done,
+            end: Ok(()),
+        };
+    };
+    let step = table::insert(context, work, sat, dissat, y, t);
+    match step.offer {
+        Ok(_) => Closed {
+            table: step.table,
+            end: Ok(()),
         },
-        CastResult::Unknown => Closed {
-            table: t,
-            end: End::Done,
+        Err(n) => Closed {
+            table: step.table,
+            end: Err(n),
         },
     }
 }
 
 // The type of the cast of a number.
-fn cast_type(context: Context, ty: Type, number: u8) -> TypeResult
+fn cast_type(context: Context, ty: Type, number: u8) -> Result<Type, TypeError>
     ensures { result ≡ cast_type (all_casts context) number ty }
 {
+    // A cast stays a number: the definition tries them in this order, 0 to 9.
     match number {
         0 => ty.cast_check(),
         1 => ty.cast_dupif(context),
@@ -102,7 +83,7 @@ fn cast_type(context: Context, ty: Type, number: u8) -> TypeResult
         7 => ty.cast_swap(),
         8 => ty.cast_alt(),
         9 => ty.cast_zeronotequal(),
-        10..=255 => TypeResult::IllTyped,
+        10..=255 => Err(TypeError::IllTyped),
     }
 }
 
@@ -111,10 +92,7 @@ fn castable(context: Context, work: &[u64], e: u16, number: u8) -> bool
     requires { length work.now ≡ work_words }
     ensures { result ≡ is_typed (cast_type (all_casts context) number (node_at work.now e).ty) }
 {
-    match cast_type(context, nodes::type_at(work, e), number) {
-        TypeResult::Ok(_) => true,
-        TypeResult::IllTyped => false,
-    }
+    cast_type(context, nodes::type_at(work, e), number).is_ok()
 }
 
 // The ten casts of node e are offered, in their order; what is ill-typed is passed over before anything is made.
@@ -122,7 +100,7 @@ fn cast_all(
     context: Context,
     work: &mut [u64],
     sat: f64,
-    dissat: DissatProb,
+    dissat: Option<f64>,
     e: u16,
     t: Table,
 ) -> Closed
@@ -130,28 +108,16 @@ fn cast_all(
     ensures { OfferedCasts context (probs sat dissat) e t result work.old work.new }
 {
     let mut table = t;
-    let mut number: u8 = 0;
-    while number < CASTS {
+    for number in 0..CASTS {
         if castable(context, work, e, number) {
             let c = offer_cast(context, work, sat, dissat, e, number, table);
-            table = c.table;
-            let end = c.end;
-            match end {
-                End::Refused(n) => {
-                    return Closed {
-                        table,
-                        end: End::Refused(n),
-                    };
-                }
-                End::Done => {}
+            if c.end.is_err() {
+                return c;
             }
+            table = c.table;
         }
-        number += 1;
     }
-    Closed {
-        table,
-        end: End::Done,
-    }
+    Closed { table, end: Ok(()) }
 }
 
 // The candidate x is offered, and all that casts make of it.
@@ -159,7 +125,7 @@ pub fn insert_closure(
     context: Context,
     work: &mut [u64],
     sat: f64,
-    dissat: DissatProb,
+    dissat: Option<f64>,
     x: Candidate,
     t: Table,
 ) -> Closed
@@ -168,42 +134,28 @@ pub fn insert_closure(
 {
     let first = nodes::count(work);
     let step = table::insert(context, work, sat, dissat, x, t);
-    let mut table = step.table;
-    let offer = step.offer;
-    match offer {
-        Offer::Refused(n) => {
-            return Closed {
-                table,
-                end: End::Refused(n),
-            };
-        }
-        Offer::Entered => {}
-        Offer::TurnedAway => {}
+    if let Err(n) = step.offer {
+        return Closed {
+            table: step.table,
+            end: Err(n),
+        };
     }
+    let mut table = step.table;
     let mut pops = 0;
+    // A `while`, since nodes are appended while the scan goes on.
     while first + pops < nodes::count(work) {
         if pops == MAX_POPS {
             return Closed {
                 table,
-                end: End::Refused(FUEL_SPENT),
+                end: Err(Refusal::FuelSpent),
             };
         }
         let c = cast_all(context, work, sat, dissat, (first + pops) as u16, table);
-        table = c.table;
-        let end = c.end;
-        match end {
-            End::Refused(n) => {
-                return Closed {
-                    table,
-                    end: End::Refused(n),
-                };
-            }
-            End::Done => {}
+        if c.end.is_err() {
+            return c;
         }
+        table = c.table;
         pops += 1;
     }
-    Closed {
-        table,
-        end: End::Done,
-    }
+    Closed { table, end: Ok(()) }
 }

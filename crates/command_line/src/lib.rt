@@ -5,10 +5,9 @@
 #![tactic(auto)]
 
 ghost use Rattle.std.specs.Prelude.{◌≡◌};
-ghost use Rattle.command_line.specs.Words.{Names, NamesLater, context_place, last_word, most_words, count_for, asked_of};
+ghost use Rattle.command_line.specs.Words.{Names, NamesLater, context_place, last_word, most_words, count_for};
 
 use files::{WORD_ROOM, say, word, word_count};
-use numerals::Number32;
 use std::rt::Env;
 
 // The places of POLICY or TREE and of OUTPUT among the words.
@@ -45,24 +44,7 @@ pub const MOVED_WORD: usize = 2;
 
 pub const MOVED_OUTPUT_WORD: usize = 3;
 
-// What the program is asked to do: a command in a context, a mover's, or nothing, and the reason has been said.
-#[derive(Clone, Copy)]
-pub enum Asked {
-    Compile(u32),
-    Size(u32),
-    Check(u32),
-    Script(u32),
-    Words(u32),
-    Differ(u32),
-    Index(u32),
-    At(u32),
-    Accept(u32),
-    New,
-    Old,
-    Nothing,
-}
-
-// The command that the words name; `Words` is a script shown word by word.
+// The commands; `Words` is a script shown word by word.
 #[derive(Clone, Copy)]
 pub enum Command {
     Compile,
@@ -76,7 +58,13 @@ pub enum Command {
     Accept,
     New,
     Old,
-    Unknown,
+}
+
+// What the program is asked to do: a command in a context, which is 0 for a mover.
+#[derive(Clone, Copy)]
+pub struct Asked {
+    pub command: Command,
+    pub context: u32,
 }
 
 // How many words there are, beside how many a command takes.
@@ -129,66 +117,57 @@ fn usage(rt: &impl Eprint, wrong: &str) {
 }
 
 // The command that a word names, of the last five.
-fn later_command(word: &[u8]) -> Command
+fn later_command(word: &[u8]) -> Option<Command>
     ensures { NamesLater word.now result }
 {
     if word == b"index".as_slice() {
-        return Command::Index;
+        return Some(Command::Index);
     }
     if word == b"at".as_slice() {
-        return Command::At;
+        return Some(Command::At);
     }
     if word == b"accept".as_slice() {
-        return Command::Accept;
+        return Some(Command::Accept);
     }
     if word == b"new".as_slice() {
-        return Command::New;
+        return Some(Command::New);
     }
     if word == b"old".as_slice() {
-        return Command::Old;
+        return Some(Command::Old);
     }
-    Command::Unknown
+    None
 }
 
 // The command that a word names.
-fn command_of(word: &[u8]) -> Command
+fn command_of(word: &[u8]) -> Option<Command>
     ensures { Names word.now result }
 {
     if word == b"compile".as_slice() {
-        return Command::Compile;
+        return Some(Command::Compile);
     }
     if word == b"size".as_slice() {
-        return Command::Size;
+        return Some(Command::Size);
     }
     if word == b"check".as_slice() {
-        return Command::Check;
+        return Some(Command::Check);
     }
     if word == b"script".as_slice() {
-        return Command::Script;
+        return Some(Command::Script);
     }
     if word == b"differ".as_slice() {
-        return Command::Differ;
+        return Some(Command::Differ);
     }
     later_command(word)
 }
 
-// The place of a command's CONTEXT, 0 where it takes none.
-fn context_place(command: Command) -> usize
+// The place of a command's CONTEXT, none for a mover.
+fn context_place(command: Command) -> Option<usize>
     ensures { result ≡ context_place command }
 {
     match command {
-        Command::Compile => 2,
-        Command::Size => 2,
-        Command::Check => 2,
-        Command::Script => 2,
-        Command::Words => 3,
-        Command::Differ => 2,
-        Command::Index => 2,
-        Command::At => 2,
-        Command::Accept => 2,
-        Command::New => 0,
-        Command::Old => 0,
-        Command::Unknown => 0,
+        Command::Words => Some(3),
+        Command::New | Command::Old => None,
+        _ => Some(2),
     }
 }
 
@@ -208,7 +187,6 @@ fn last_word(command: Command) -> usize
         Command::Accept => PROPOSED_WORD,
         Command::New => MOVED_OUTPUT_WORD,
         Command::Old => MOVED_OUTPUT_WORD,
-        Command::Unknown => 0,
     }
 }
 
@@ -228,7 +206,6 @@ fn most_words(command: Command) -> usize
         Command::Accept => PROPOSED_WORD + 1,
         Command::New => MOVED_OUTPUT_WORD + 1,
         Command::Old => MOVED_OUTPUT_WORD + 1,
-        Command::Unknown => 0,
     }
 }
 
@@ -245,29 +222,6 @@ fn count_for(command: Command, words: usize) -> Count
     Count::Right
 }
 
-// What a command asks in a context, if there is one; a mover asks the same in any.
-fn asked_in(command: Command, context: Number32) -> Asked
-    ensures { result ≡ asked_of command context }
-{
-    match context {
-        Number32::Is(n) => match command {
-            Command::Compile => Asked::Compile(n),
-            Command::Size => Asked::Size(n),
-            Command::Check => Asked::Check(n),
-            Command::Script => Asked::Script(n),
-            Command::Words => Asked::Words(n),
-            Command::Differ => Asked::Differ(n),
-            Command::Index => Asked::Index(n),
-            Command::At => Asked::At(n),
-            Command::Accept => Asked::Accept(n),
-            Command::New => Asked::New,
-            Command::Old => Asked::Old,
-            Command::Unknown => Asked::Nothing,
-        },
-        Number32::Missing => Asked::Nothing,
-    }
-}
-
 // Whether a script is to be shown word by word.
 fn words_wanted(rt: &impl Env) -> bool {
     let mut room = [0u8; WORD_ROOM];
@@ -275,20 +229,15 @@ fn words_wanted(rt: &impl Env) -> bool {
     &room[..n] == b"--words".as_slice()
 }
 
-// `Words` for a script that is to be shown word by word, else the command itself.
-fn by_words(rt: &impl Env, command: Command) -> Command {
-    if let Command::Script = command {
-        if words_wanted(rt) {
-            return Command::Words;
-        }
-    }
-    command
-}
-
-fn command_given(rt: &impl Env) -> Command {
+// The command that the words name.
+fn command_given(rt: &impl Env) -> Option<Command> {
     let mut room = [0u8; WORD_ROOM];
     let n = word(rt, 1, &mut room).unwrap_or(0);
-    by_words(rt, command_of(&room[..n]))
+    let command = command_of(&room[..n])?;
+    if matches!(command, Command::Script) && words_wanted(rt) {
+        return Some(Command::Words);
+    }
+    Some(command)
 }
 
 // Whether there are as many words as a command takes; says so where not.
@@ -307,48 +256,51 @@ fn words_suit<R: Env + Eprint>(rt: &R, command: Command) -> bool {
 }
 
 // The decimal number that word i writes.
-fn number_word(rt: &impl Env, i: usize) -> Number32 {
+fn number_word(rt: &impl Env, i: usize) -> Option<u32> {
     let mut room = [0u8; WORD_ROOM];
     let n = word(rt, i, &mut room).unwrap_or(0);
     numerals::decimal(&room[..n])
 }
 
-// The CONTEXT at a place of the words; says so where there is none.
-fn context_at<R: Env + Eprint>(rt: &R, place: usize) -> Number32 {
-    let context = number_word(rt, place);
-    if let Number32::Missing = context {
-        usage(rt, "CONTEXT is not a decimal number up to 4294967295");
+// The same; says what is wrong where there is none.
+fn number_at<R: Env + Eprint>(rt: &R, i: usize, wrong: &str) -> Option<u32> {
+    let number = number_word(rt, i);
+    if number.is_none() {
+        usage(rt, wrong);
     }
-    context
+    number
 }
 
 // The CONTEXT of a command, 0 where it takes none; says so where the words are too few, too many, or have none.
-fn context_given<R: Env + Eprint>(rt: &R, command: Command) -> Number32 {
-    if words_suit(rt, command) {
-        let place = context_place(command);
-        if place == 0 {
-            return Number32::Is(0);
-        }
-        return context_at(rt, place);
+fn context_given<R: Env + Eprint>(rt: &R, command: Command) -> Option<u32> {
+    if !words_suit(rt, command) {
+        return None;
     }
-    Number32::Missing
+    let Some(place) = context_place(command) else {
+        return Some(0);
+    };
+    number_at(
+        rt,
+        place,
+        "CONTEXT is not a decimal number up to 4294967295",
+    )
 }
 
 // The BYTE that is to be looked up; says so where there is none.
-pub fn byte_given<R: Env + Eprint>(rt: &R) -> Number32 {
-    let byte = number_word(rt, BYTE_WORD);
-    if let Number32::Missing = byte {
-        usage(rt, "BYTE is not a decimal number up to 4294967295");
-    }
-    byte
+pub fn byte_given<R: Env + Eprint>(rt: &R) -> Option<u32> {
+    number_at(
+        rt,
+        BYTE_WORD,
+        "BYTE is not a decimal number up to 4294967295",
+    )
 }
 
-// What the words ask.
-pub fn what_is_asked<R: Env + Eprint>(rt: &R) -> Asked {
-    let command = command_given(rt);
-    if let Command::Unknown = command {
+// What the words ask; says so where they ask nothing.
+pub fn what_is_asked<R: Env + Eprint>(rt: &R) -> Option<Asked> {
+    let Some(command) = command_given(rt) else {
         usage(rt, "no command that it knows");
-        return Asked::Nothing;
-    }
-    asked_in(command, context_given(rt, command))
+        return None;
+    };
+    let context = context_given(rt, command)?;
+    Some(Asked { command, context })
 }

@@ -1,30 +1,27 @@
 -- The search of the root begins where nothing is remembered, and its table's choice is the definition's. Assumes nothing.
+use Rattle.refusals.specs.declared.Refusal.{Refusal}
+use Rattle.std.specs.Prelude.{None, Result, Err, Ok}
 use mathlib.Core.List.{List, [], map}
-use mathlib.Core.Path.{◌≡◌, refl, sym, ap, subst, ◌∙◌}
+use mathlib.Core.Path.{◌≡◌, sym, ap, subst, ◌∙◌}
 use Prim.Native.Nat.{ℕ, ◌-◌, ◌<◌}
 use native.Mathlib.Omega.{arith}
 use Rattle.contexts.specs.declared.Context.{Context}
-use Rattle.costs.specs.declared.DissatProb.TheVariants as Prob
 use Rattle.policies.specs.Policy.{Policy}
 use Rattle.definition.specs.Tables.{Table}
 use Rattle.definition.specs.Candidates.{Candidate}
-use Rattle.definition.specs.Refusals.{State, state, Res, done, refused, then, M}
+use Rattle.definition.specs.Refusals.{State, state, then, M}
 use Rattle.definition.specs.Search.{search, chosen, cheapest, is_base_b}
 use Rattle.definition.specs.Compile.{root_probs, if_safe, best_compilation}
 use Rattle.definition_laws.proofs.Steps.{then-done, then-refused, best_compilation-steps}
-use Rattle.memory.specs.Layout.{node_count, table_count}
+use Rattle.memory.specs.Layout.{table_count}
 use Rattle.nodes.specs.Answers.{Begun}
 use Rattle.cache.specs.Slots.{slots_up_to}
-use Rattle.search_state.specs.State.{state_in, stored_as, stored_all, slot_table}
+use Rattle.search_state.specs.State.{state_in, stored_as, stored_all}
 use Rattle.search_state.specs.Recalled.{Searched, out_answer, IsSlot}
-use Rattle.search_state.specs.declared.Out.{Out}
-use Rattle.search_state.specs.declared.Out.TheVariants.{Slot, Refused}
 use Rattle.search.specs.Searching.{Going}
-use Rattle.compile.specs.declared.Root.{Root}
-use Rattle.compile.specs.declared.Root.TheVariants as Root
-use Rattle.compile.specs.Answers.{Whole, Choosable, Picks, Finds, root_answer}
+use Rattle.compile.specs.Answers.{Whole, Choosable, Picks, Finds}
 
-pub goes : {pol m : List ℕ} {root : ℕ} → Whole pol root → Begun m → Going 0 pol root Prob.None m
+pub goes : {pol m : List ℕ} {root : ℕ} → Whole pol root → Begun m → Going 0 pol root None m
 goes w b =
     record {
       classed = w.classed;
@@ -49,29 +46,29 @@ begun-state {m} b pol =
 abbrev after : Table → M Candidate
 after t s = then (chosen (cheapest root_probs is_base_b t) s) λ x s. if_safe x s
 
-module _ (c : Context) (pol : List ℕ) (q : Policy) {o : Out} {m₀ m : List ℕ} (b : Begun m₀)
+module _ (c : Context) (pol : List ℕ) (q : Policy) {o : Result ℕ Refusal} {m₀ m : List ℕ} (b : Begun m₀)
     (h : Searched (search c q root_probs (state_in pol m₀)) pol o m₀ m) where
-  searched : (answer : Out) → o ≡ answer → search c q root_probs (state 0 []) ≡ out_answer pol m answer
+  searched : (answer : Result ℕ Refusal) → o ≡ answer → search c q root_probs (state 0 []) ≡ out_answer pol m answer
   searched answer e =
-      ap (λ (s : State). search c q root_probs s) (sym (begun-state b pol)) ∙ h.says ∙ ap (λ (x : Out). out_answer pol m x) e
+      ap (λ (s : State). search c q root_probs s) (sym (begun-state b pol)) ∙ h.says ∙ ap (λ (x : Result ℕ Refusal). out_answer pol m x) e
 
-  pub no_table : (n : ℕ) → o ≡ Refused n → Finds (best_compilation c q (state 0 [])) pol (Root.Refused n) m
+  pub no_table : (n : Refusal) → o ≡ Err n → Finds (best_compilation c q (state 0 [])) pol (Err n) m
   no_table n e =
       record {
-        says = best_compilation-steps c q (state 0 []) ∙ then-refused after (searched (Refused n) e);
+        says = best_compilation-steps c q (state 0 []) ∙ then-refused after (searched (Err n) e);
         holds = h.ready.nodes;
         there = tt;
       }
 
-  pub choosable : (s : ℕ) → o ≡ Slot s → Choosable m s
+  pub choosable : (s : ℕ) → o ≡ Ok s → Choosable m s
   choosable s e =
-      let there : s < table_count m = subst (λ (x : Out). IsSlot m x) e h.slot in
+      let there : s < table_count m = subst (λ (x : Result ℕ Refusal). IsSlot m x) e h.slot in
       record { kept = h.ready.tables; there = there; below = (h.ready.slots s there).below }
 
-  pub picked : (s : ℕ) → o ≡ Slot s → {r : Root} → Picks m s r → Finds (best_compilation c q (state 0 [])) pol r m
+  pub picked : (s : ℕ) → o ≡ Ok s → {r : Result ℕ Refusal} → Picks m s r → Finds (best_compilation c q (state 0 [])) pol r m
   picked s e p =
       record {
-        says = best_compilation-steps c q (state 0 []) ∙ then-done after (searched (Slot s) e) ∙ p.says pol (state_in pol m);
+        says = best_compilation-steps c q (state 0 []) ∙ then-done after (searched (Ok s) e) ∙ p.says pol (state_in pol m);
         holds = h.ready.nodes;
         there = p.there;
       }

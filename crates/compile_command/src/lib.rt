@@ -4,7 +4,6 @@
 ghost use Rattle.std.specs.Prelude.{◌≤◌, length};
 
 use command_line::{INPUT_WORD, OUTPUT_WORD};
-use files::Loaded;
 use record_files::{ROOM, load_records};
 use std::rt::{Env, Files};
 
@@ -36,7 +35,7 @@ fn show_and_save<R: Env + Files + Print + Eprint>(
 // Compiles the policy that the words name and shows the answer.
 pub fn compile<R: Env + Files + Input + Print + Eprint>(rt: &R, context: u32) {
     let mut policy = [0u8; ROOM];
-    let Loaded::Bytes(n) = load_records(rt, INPUT_WORD, &mut policy) else {
+    let Some(n) = load_records(rt, INPUT_WORD, &mut policy) else {
         return;
     };
     let mut tree = [0u8; TREE_ROOM];
@@ -66,7 +65,7 @@ pub fn compile<R: Env + Files + Input + Print + Eprint>(rt: &R, context: u32) {
 // that holds the tree goes out of use.
 pub fn size<R: Env + Files + Input + Print + Eprint>(rt: &R, context: u32) {
     let mut policy = [0u8; ROOM];
-    let Loaded::Bytes(n) = load_records(rt, INPUT_WORD, &mut policy) else {
+    let Some(n) = load_records(rt, INPUT_WORD, &mut policy) else {
         return;
     };
     let mut work = [0u64; WORK_WORDS];
@@ -93,7 +92,7 @@ pub fn size<R: Env + Files + Input + Print + Eprint>(rt: &R, context: u32) {
 // Checks the tree that the words name and shows the answer.
 pub fn check_tree<R: Env + Files + Input + Print + Eprint>(rt: &R, context: u32) {
     let mut tree = [0u8; ROOM];
-    let Loaded::Bytes(n) = load_records(rt, INPUT_WORD, &mut tree) else {
+    let Some(n) = load_records(rt, INPUT_WORD, &mut tree) else {
         return;
     };
     let mut work = [0u64; CHECK_WORDS];

@@ -16,23 +16,25 @@
 // standard error says what. Each command's work stands in a crate of its own.
 #![tactic(auto)]
 
-use command_line::Asked;
+use command_line::Command;
+use moving::Form;
 
 fn main(rt: HostRuntime) {
-    let asked = command_line::what_is_asked(&rt);
-    match asked {
-        Asked::Compile(context) => compile_command::compile(&rt, context),
-        Asked::Size(context) => compile_command::size(&rt, context),
-        Asked::Check(context) => compile_command::check_tree(&rt, context),
-        Asked::Script(_) => {}
-        Asked::Words(_) => {}
-        Asked::Differ(context) => differ_command::differ_trees(&rt, context),
-        Asked::Index(context) => index_command::index_tree(&rt, context),
-        Asked::At(context) => index_command::find_byte(&rt, context),
-        Asked::Accept(context) => accept_command::accept(&rt, context),
-        Asked::New => move_command::to_new(&rt),
-        Asked::Old => move_command::to_old(&rt),
-        Asked::Nothing => {}
+    let Some(asked) = command_line::what_is_asked(&rt) else {
+        return;
+    };
+    let context = asked.context;
+    match asked.command {
+        Command::Compile => compile_command::compile(&rt, context),
+        Command::Size => compile_command::size(&rt, context),
+        Command::Check => compile_command::check_tree(&rt, context),
+        Command::Script | Command::Words => {}
+        Command::Differ => differ_command::differ_trees(&rt, context),
+        Command::Index => index_command::index_tree(&rt, context),
+        Command::At => index_command::find_byte(&rt, context),
+        Command::Accept => accept_command::accept(&rt, context),
+        Command::New => move_command::to_form(&rt, Form::New),
+        Command::Old => move_command::to_form(&rt, Form::Old),
     }
     script_command::write_script(&rt, asked);
 }

@@ -2,9 +2,7 @@
 use mathlib.Core.Path.{◌≡◌, refl}
 use Prim.Native.Nat.{◌<◌}
 use native.Mathlib.Omega.{arith}
-use lib.Dec.{eqb}
 use Rattle.correctness.specs.Names.{Base, B, K, «V», W, Input, Zero, One, Any, OneNonZero, AnyNonZero}
-use Rattle.correctness.specs.Letters.{base_eq}
 use Rattle.correctness.specs.Digits.{base_rank, input_rank, base_of, input_of}
 
 pub base-lt : (b : Base) → base_rank b < 4
@@ -32,22 +30,3 @@ input-of One = refl
 input-of Any = refl
 input-of OneNonZero = refl
 input-of AnyNonZero = refl
-
--- two bases are one where their ranks are
-pub base-eq : (a b : Base) → eqb (base_rank a) (base_rank b) ≡ base_eq a b
-base-eq B B = refl
-base-eq B K = refl
-base-eq B «V» = refl
-base-eq B W = refl
-base-eq K B = refl
-base-eq K K = refl
-base-eq K «V» = refl
-base-eq K W = refl
-base-eq «V» B = refl
-base-eq «V» K = refl
-base-eq «V» «V» = refl
-base-eq «V» W = refl
-base-eq W B = refl
-base-eq W K = refl
-base-eq W «V» = refl
-base-eq W W = refl

@@ -1,7 +1,7 @@
 -- The correctness rules, from types/correctness.rs, in its order and under its names.
-use Rattle.std.specs.Prelude.{Bool, true, false, cond, not, ◌&&◌, ◌||◌, List, [], ◌∷◌, ℕ, eqb}
-use Rattle.correctness.specs.Names.{Base, B, K, «V», W, Input, Zero, One, Any, OneNonZero, AnyNonZero, Correctness, CorrectnessResult}
-use Rattle.correctness.specs.declared.CorrectnessResult.TheVariants.{Ok, IllTyped}
+use Rattle.correctness.specs.declared.TypeError.{TypeError}
+use Rattle.std.specs.Prelude.{Bool, true, false, cond, not, ◌&&◌, ◌||◌, List, [], ◌∷◌, ℕ, eqb, Result, Ok, Err}
+use Rattle.correctness.specs.Names.{Base, B, K, «V», W, Input, Zero, One, Any, OneNonZero, AnyNonZero, Correctness}
 use Rattle.correctness.specs.Letters.{is_b, is_k, is_v, is_w, base_eq, is_zero, is_one, is_non_zero}
 use Rattle.contexts.specs.Lists.{all, sum}
 use Rattle.contexts.specs.declared.Context.{Context}
@@ -11,9 +11,9 @@ use Rattle.contexts.specs.declared.Context.TheVariants.{Segwitv0, Tap}
 abbrev pub correctness : Base → Input → Bool → Bool → Correctness
 correctness b i d u = record { base = b; input = i; dissatisfiable = d; unit = u }
 
-abbrev pub ok_if : Bool → Correctness → CorrectnessResult
+abbrev pub ok_if : Bool → Correctness → Result Correctness TypeError
 ok_if true c = Ok c
-ok_if false c = IllTyped
+ok_if false c = Err TypeError.IllTyped
 
 -- constructors
 
@@ -46,13 +46,13 @@ time = correctness B Zero false false
 abbrev pub one_if_zero : Input → Input
 one_if_zero i = cond (is_zero i) One Any
 
-abbrev pub cast_alt : Correctness → CorrectnessResult
+abbrev pub cast_alt : Correctness → Result Correctness TypeError
 cast_alt c = ok_if (is_b c.base) (correctness W Any c.dissatisfiable c.unit)
 
-abbrev pub cast_swap : Correctness → CorrectnessResult
+abbrev pub cast_swap : Correctness → Result Correctness TypeError
 cast_swap c = ok_if (is_b c.base && is_one c.input) (correctness W Any c.dissatisfiable c.unit)
 
-abbrev pub cast_check : Correctness → CorrectnessResult
+abbrev pub cast_check : Correctness → Result Correctness TypeError
 cast_check c = ok_if (is_k c.base) (correctness B c.input c.dissatisfiable true)
 
 -- d:X is u in Tapscript alone, where IF takes nothing but the empty element and the byte 1: document 02, R-5
@@ -60,22 +60,22 @@ abbrev pub dupif_unit : Context → Bool
 dupif_unit Segwitv0 = false
 dupif_unit Tap = true
 
-abbrev pub cast_dupif : Context → Correctness → CorrectnessResult
+abbrev pub cast_dupif : Context → Correctness → Result Correctness TypeError
 cast_dupif context c = ok_if (is_v c.base && is_zero c.input) (correctness B OneNonZero true (dupif_unit context))
 
-abbrev pub cast_verify : Correctness → CorrectnessResult
+abbrev pub cast_verify : Correctness → Result Correctness TypeError
 cast_verify c = ok_if (is_b c.base) (correctness «V» c.input false false)
 
-abbrev pub cast_nonzero : Correctness → CorrectnessResult
+abbrev pub cast_nonzero : Correctness → Result Correctness TypeError
 cast_nonzero c = ok_if (is_non_zero c.input && is_b c.base) (correctness B c.input true c.unit)
 
-abbrev pub cast_zeronotequal : Correctness → CorrectnessResult
+abbrev pub cast_zeronotequal : Correctness → Result Correctness TypeError
 cast_zeronotequal c = ok_if (is_b c.base) (correctness B c.input c.dissatisfiable true)
 
-abbrev pub cast_true : Correctness → CorrectnessResult
+abbrev pub cast_true : Correctness → Result Correctness TypeError
 cast_true c = ok_if (is_v c.base) (correctness B c.input false true)
 
-abbrev pub cast_or_i_false : Correctness → CorrectnessResult
+abbrev pub cast_or_i_false : Correctness → Result Correctness TypeError
 cast_or_i_false c = ok_if (is_b c.base) (correctness B (one_if_zero c.input) true c.unit)
 
 -- pairs and triples: what they ask of their children
@@ -105,32 +105,32 @@ or_d_input x y = cond (is_zero x && is_zero y) Zero (cond (is_one x && is_zero y
 abbrev pub or_i_input : Input → Input → Input
 or_i_input x y = cond (is_zero x && is_zero y) One Any
 
-abbrev pub and_b : Correctness → Correctness → CorrectnessResult
+abbrev pub and_b : Correctness → Correctness → Result Correctness TypeError
 and_b x y =
     ok_if (is_b x.base && is_w y.base)
     (correctness B (and_input x.input y.input) (x.dissatisfiable && y.dissatisfiable) true)
 
-abbrev pub and_v : Correctness → Correctness → CorrectnessResult
+abbrev pub and_v : Correctness → Correctness → Result Correctness TypeError
 and_v x y =
     ok_if (is_v x.base && not (is_w y.base))
     (correctness y.base (and_input x.input y.input) false y.unit)
 
-abbrev pub or_b : Correctness → Correctness → CorrectnessResult
+abbrev pub or_b : Correctness → Correctness → Result Correctness TypeError
 or_b x y =
     ok_if ((x.dissatisfiable && y.dissatisfiable) && (is_b x.base && is_w y.base))
     (correctness B (or_b_input x.input y.input) true true)
 
-abbrev pub or_d : Correctness → Correctness → CorrectnessResult
+abbrev pub or_d : Correctness → Correctness → Result Correctness TypeError
 or_d x y =
     ok_if (is_bdu x && is_b y.base)
     (correctness B (or_d_input x.input y.input) y.dissatisfiable y.unit)
 
-abbrev pub or_c : Correctness → Correctness → CorrectnessResult
+abbrev pub or_c : Correctness → Correctness → Result Correctness TypeError
 or_c x y =
     ok_if (is_bdu x && is_v y.base)
     (correctness «V» (or_d_input x.input y.input) false false)
 
-abbrev pub or_i : Correctness → Correctness → CorrectnessResult
+abbrev pub or_i : Correctness → Correctness → Result Correctness TypeError
 or_i x y =
     ok_if (same_bkv x.base y.base)
     (correctness x.base (or_i_input x.input y.input) (x.dissatisfiable || y.dissatisfiable) (x.unit && y.unit))
@@ -145,7 +145,7 @@ and_or_input x y z =
     cond (is_zero x && (is_zero y && is_zero z)) Zero
     (cond ((is_zero x && (is_one y && is_one z)) || (is_one x && (is_zero y && is_zero z))) One Any)
 
-abbrev pub and_or : Correctness → Correctness → Correctness → CorrectnessResult
+abbrev pub and_or : Correctness → Correctness → Correctness → Result Correctness TypeError
 and_or x y z =
     ok_if (is_bdu x && same_bkv y.base z.base)
     (correctness y.base (and_or_input x.input y.input z.input) z.dissatisfiable (y.unit && z.unit))
@@ -166,7 +166,7 @@ num_args AnyNonZero = 2
 abbrev pub threshold_input : ℕ → Input
 threshold_input n = cond (eqb n 0) Zero (cond (eqb n 1) One Any)
 
-abbrev pub threshold : List Correctness → CorrectnessResult
+abbrev pub threshold : List Correctness → Result Correctness TypeError
 threshold xs =
     ok_if (first_b xs && all (λ x. x.unit && x.dissatisfiable) xs)
     (correctness B (threshold_input (sum (λ x. num_args x.input) xs)) true true)

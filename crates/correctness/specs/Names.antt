@@ -4,4 +4,3 @@ pub use Rattle.correctness.specs.declared.Base.TheVariants.{B, K, «V», W}
 pub use Rattle.correctness.specs.declared.Input.{Input}
 pub use Rattle.correctness.specs.declared.Input.TheVariants.{Zero, One, Any, OneNonZero, AnyNonZero}
 pub use Rattle.correctness.specs.declared.Correctness.{Correctness}
-pub use Rattle.correctness.specs.declared.CorrectnessResult.{CorrectnessResult}

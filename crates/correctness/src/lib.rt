@@ -15,7 +15,7 @@ ghost use Rattle.correctness.specs.Digits.{base_rank, input_rank, base_of, input
 use contexts::Context;
 
 // Where a fragment can stand.
-#[derive(Clone, Copy)]
+#[derive(Clone, Copy, PartialEq, Eq)]
 pub enum Base {
     B,
     K,
@@ -28,47 +28,35 @@ impl Base {
     pub fn is_b(self) -> bool
         ensures { result ≡ is_b self }
     {
-        match self {
-            Base::B => true,
-            _ => false,
-        }
+        matches!(self, Base::B)
     }
 
     // Whether this is K.
     pub fn is_k(self) -> bool
         ensures { result ≡ is_k self }
     {
-        match self {
-            Base::K => true,
-            _ => false,
-        }
+        matches!(self, Base::K)
     }
 
     // Whether this is V.
     pub fn is_v(self) -> bool
         ensures { result ≡ is_v self }
     {
-        match self {
-            Base::V => true,
-            _ => false,
-        }
+        matches!(self, Base::V)
     }
 
     // Whether this is W.
     pub fn is_w(self) -> bool
         ensures { result ≡ is_w self }
     {
-        match self {
-            Base::W => true,
-            _ => false,
-        }
+        matches!(self, Base::W)
     }
 
     // Whether the two bases are one.
     pub fn same(self, other: Base) -> bool
         ensures { result ≡ base_eq self other }
     {
-        self.rank() == other.rank()
+        self == other
     }
 
     // Whether the two bases are one and no W.
@@ -94,30 +82,21 @@ impl Input {
     pub fn is_zero(self) -> bool
         ensures { result ≡ is_zero self }
     {
-        match self {
-            Input::Zero => true,
-            _ => false,
-        }
+        matches!(self, Input::Zero)
     }
 
     // Whether exactly one element is taken: o.
     pub fn is_one(self) -> bool
         ensures { result ≡ is_one self }
     {
-        match self {
-            Input::One | Input::OneNonZero => true,
-            _ => false,
-        }
+        matches!(self, Input::One | Input::OneNonZero)
     }
 
     // Whether a satisfaction has the top element nonzero: n.
     pub fn is_nonzero(self) -> bool
         ensures { result ≡ is_non_zero self }
     {
-        match self {
-            Input::OneNonZero | Input::AnyNonZero => true,
-            _ => false,
-        }
+        matches!(self, Input::OneNonZero | Input::AnyNonZero)
     }
 
     // One for z, Any for the rest.
@@ -162,10 +141,9 @@ pub struct Correctness {
     pub unit: bool,
 }
 
-// What a correctness rule answers.
+// Why a type rule gives no type.
 #[derive(Clone, Copy)]
-pub enum CorrectnessResult {
-    Ok(Correctness),
+pub enum TypeError {
     IllTyped,
 }
 
@@ -177,18 +155,24 @@ pub struct CorrectnessSoFar {
 }
 
 // The correctness of these properties, if the rule's demands are met.
-fn ok_if(met: bool, base: Base, input: Input, dissatisfiable: bool, unit: bool) -> CorrectnessResult
+fn ok_if(
+    met: bool,
+    base: Base,
+    input: Input,
+    dissatisfiable: bool,
+    unit: bool,
+) -> Result<Correctness, TypeError>
     ensures { result ≡ ok_if met (correctness base input dissatisfiable unit) }
 {
     if met {
-        CorrectnessResult::Ok(Correctness {
+        Ok(Correctness {
             base,
             input,
             dissatisfiable,
             unit,
         })
     } else {
-        CorrectnessResult::IllTyped
+        Err(TypeError::IllTyped)
     }
 }
 
@@ -196,10 +180,7 @@ fn ok_if(met: bool, base: Base, input: Input, dissatisfiable: bool, unit: bool) 
 fn dupif_unit(context: Context) -> bool
     ensures { result ≡ dupif_unit context }
 {
-    match context {
-        Context::Segwitv0 => false,
-        Context::Tap => true,
-    }
+    matches!(context, Context::Tap)
 }
 
 // What two fragments take in turn.
@@ -368,12 +349,11 @@ impl Correctness {
     }
 
     // The correctness of a:X.
-    pub fn cast_alt(self) -> CorrectnessResult
+    pub fn cast_alt(self) -> Result<Correctness, TypeError>
         ensures { result ≡ cast_alt self }
     {
-        let base = self.base;
         ok_if(
-            base.is_b(),
+            self.base.is_b(),
             Base::W,
             Input::Any,
             self.dissatisfiable,
@@ -382,13 +362,11 @@ impl Correctness {
     }
 
     // The correctness of s:X.
-    pub fn cast_swap(self) -> CorrectnessResult
+    pub fn cast_swap(self) -> Result<Correctness, TypeError>
         ensures { result ≡ cast_swap self }
     {
-        let base = self.base;
-        let input = self.input;
         ok_if(
-            base.is_b() & input.is_one(),
+            self.base.is_b() & self.input.is_one(),
             Base::W,
             Input::Any,
             self.dissatisfiable,
@@ -397,22 +375,24 @@ impl Correctness {
     }
 
     // The correctness of c:X.
-    pub fn cast_check(self) -> CorrectnessResult
+    pub fn cast_check(self) -> Result<Correctness, TypeError>
         ensures { result ≡ cast_check self }
     {
-        let base = self.base;
-        let input = self.input;
-        ok_if(base.is_k(), Base::B, input, self.dissatisfiable, true)
+        ok_if(
+            self.base.is_k(),
+            Base::B,
+            self.input,
+            self.dissatisfiable,
+            true,
+        )
     }
 
     // The correctness of d:X in a context.
-    pub fn cast_dupif(self, context: Context) -> CorrectnessResult
+    pub fn cast_dupif(self, context: Context) -> Result<Correctness, TypeError>
         ensures { result ≡ cast_dupif context self }
     {
-        let base = self.base;
-        let input = self.input;
         ok_if(
-            base.is_v() & input.is_zero(),
+            self.base.is_v() & self.input.is_zero(),
             Base::B,
             Input::OneNonZero,
             true,
@@ -421,77 +401,68 @@ impl Correctness {
     }
 
     // The correctness of v:X.
-    pub fn cast_verify(self) -> CorrectnessResult
+    pub fn cast_verify(self) -> Result<Correctness, TypeError>
         ensures { result ≡ cast_verify self }
     {
-        let base = self.base;
-        let input = self.input;
-        ok_if(base.is_b(), Base::V, input, false, false)
+        ok_if(self.base.is_b(), Base::V, self.input, false, false)
     }
 
     // The correctness of j:X.
-    pub fn cast_nonzero(self) -> CorrectnessResult
+    pub fn cast_nonzero(self) -> Result<Correctness, TypeError>
         ensures { result ≡ cast_nonzero self }
     {
-        let base = self.base;
-        let input = self.input;
         ok_if(
-            input.is_nonzero() & base.is_b(),
+            self.input.is_nonzero() & self.base.is_b(),
             Base::B,
-            input,
+            self.input,
             true,
             self.unit,
         )
     }
 
     // The correctness of n:X.
-    pub fn cast_zeronotequal(self) -> CorrectnessResult
+    pub fn cast_zeronotequal(self) -> Result<Correctness, TypeError>
         ensures { result ≡ cast_zeronotequal self }
     {
-        let base = self.base;
-        let input = self.input;
-        ok_if(base.is_b(), Base::B, input, self.dissatisfiable, true)
+        ok_if(
+            self.base.is_b(),
+            Base::B,
+            self.input,
+            self.dissatisfiable,
+            true,
+        )
     }
 
     // The correctness of t:X.
-    pub fn cast_true(self) -> CorrectnessResult
+    pub fn cast_true(self) -> Result<Correctness, TypeError>
         ensures { result ≡ cast_true self }
     {
-        let base = self.base;
-        let input = self.input;
-        ok_if(base.is_v(), Base::B, input, false, true)
+        ok_if(self.base.is_v(), Base::B, self.input, false, true)
     }
 
     // The correctness of l:X and of u:X.
-    pub fn cast_or_i_false(self) -> CorrectnessResult
+    pub fn cast_or_i_false(self) -> Result<Correctness, TypeError>
         ensures { result ≡ cast_or_i_false self }
     {
-        let base = self.base;
-        let input = self.input;
-        let taken = input.one_if_zero();
-        ok_if(base.is_b(), Base::B, taken, true, self.unit)
+        let taken = self.input.one_if_zero();
+        ok_if(self.base.is_b(), Base::B, taken, true, self.unit)
     }
 
     // Whether this is a B with d and u.
     fn is_bdu(self) -> bool
         ensures { result ≡ is_bdu self }
     {
-        let base = self.base;
-        base.is_b() & (self.dissatisfiable & self.unit)
+        self.base.is_b() & (self.dissatisfiable & self.unit)
     }
 
     // The correctness of and_b.
-    pub fn and_b(left: Self, right: Self) -> CorrectnessResult
+    pub fn and_b(left: Self, right: Self) -> Result<Correctness, TypeError>
         ensures { result ≡ and_b left right }
     {
-        let left_base = left.base;
-        let right_base = right.base;
-        let left_input = left.input;
-        let right_input = right.input;
-        let input = and_input(left_input, right_input);
+        let input = and_input(left.input, right.input);
         let d = left.dissatisfiable & right.dissatisfiable;
         ok_if(
-            left_base.is_b() & right_base.is_w(),
+            left.base.is_b() & right.base.is_w(),
             Base::B,
             input,
             d,
@@ -500,17 +471,13 @@ impl Correctness {
     }
 
     // The correctness of and_v.
-    pub fn and_v(left: Self, right: Self) -> CorrectnessResult
+    pub fn and_v(left: Self, right: Self) -> Result<Correctness, TypeError>
         ensures { result ≡ and_v left right }
     {
-        let left_base = left.base;
-        let right_base = right.base;
-        let left_input = left.input;
-        let right_input = right.input;
-        let input = and_input(left_input, right_input);
+        let input = and_input(left.input, right.input);
         ok_if(
-            left_base.is_v() & !right_base.is_w(),
-            right_base,
+            left.base.is_v() & !right.base.is_w(),
+            right.base,
             input,
             false,
             right.unit,
@@ -518,17 +485,13 @@ impl Correctness {
     }
 
     // The correctness of or_b.
-    pub fn or_b(left: Self, right: Self) -> CorrectnessResult
+    pub fn or_b(left: Self, right: Self) -> Result<Correctness, TypeError>
         ensures { result ≡ or_b left right }
     {
-        let left_base = left.base;
-        let right_base = right.base;
-        let left_input = left.input;
-        let right_input = right.input;
         let d = left.dissatisfiable & right.dissatisfiable;
-        let input = or_b_input(left_input, right_input);
+        let input = or_b_input(left.input, right.input);
         ok_if(
-            d & (left_base.is_b() & right_base.is_w()),
+            d & (left.base.is_b() & right.base.is_w()),
             Base::B,
             input,
             true,
@@ -537,15 +500,12 @@ impl Correctness {
     }
 
     // The correctness of or_d.
-    pub fn or_d(left: Self, right: Self) -> CorrectnessResult
+    pub fn or_d(left: Self, right: Self) -> Result<Correctness, TypeError>
         ensures { result ≡ or_d left right }
     {
-        let right_base = right.base;
-        let left_input = left.input;
-        let right_input = right.input;
-        let input = or_d_input(left_input, right_input);
+        let input = or_d_input(left.input, right.input);
         ok_if(
-            left.is_bdu() & right_base.is_b(),
+            left.is_bdu() & right.base.is_b(),
             Base::B,
             input,
             right.dissatisfiable,
@@ -554,15 +514,12 @@ impl Correctness {
     }
 
     // The correctness of or_c.
-    pub fn or_c(left: Self, right: Self) -> CorrectnessResult
+    pub fn or_c(left: Self, right: Self) -> Result<Correctness, TypeError>
         ensures { result ≡ or_c left right }
     {
-        let right_base = right.base;
-        let left_input = left.input;
-        let right_input = right.input;
-        let input = or_d_input(left_input, right_input);
+        let input = or_d_input(left.input, right.input);
         ok_if(
-            left.is_bdu() & right_base.is_v(),
+            left.is_bdu() & right.base.is_v(),
             Base::V,
             input,
             false,
@@ -571,33 +528,24 @@ impl Correctness {
     }
 
     // The correctness of or_i.
-    pub fn or_i(left: Self, right: Self) -> CorrectnessResult
+    pub fn or_i(left: Self, right: Self) -> Result<Correctness, TypeError>
         ensures { result ≡ or_i left right }
     {
-        let left_base = left.base;
-        let right_base = right.base;
-        let left_input = left.input;
-        let right_input = right.input;
-        let input = or_i_input(left_input, right_input);
+        let input = or_i_input(left.input, right.input);
         let d = left.dissatisfiable | right.dissatisfiable;
         let u = left.unit & right.unit;
-        ok_if(left_base.same_bkv(right_base), left_base, input, d, u)
+        ok_if(left.base.same_bkv(right.base), left.base, input, d, u)
     }
 
     // The correctness of andor.
-    pub fn and_or(a: Self, b: Self, c: Self) -> CorrectnessResult
+    pub fn and_or(a: Self, b: Self, c: Self) -> Result<Correctness, TypeError>
         ensures { result ≡ and_or a b c }
     {
-        let b_base = b.base;
-        let c_base = c.base;
-        let a_input = a.input;
-        let b_input = b.input;
-        let c_input = c.input;
-        let input = and_or_input(a_input, b_input, c_input);
+        let input = and_or_input(a.input, b.input, c.input);
         let u = b.unit & c.unit;
         ok_if(
-            a.is_bdu() & b_base.same_bkv(c_base),
-            b_base,
+            a.is_bdu() & b.base.same_bkv(c.base),
+            b.base,
             input,
             c.dissatisfiable,
             u,
@@ -610,10 +558,8 @@ impl CorrectnessSoFar {
     pub fn first(sub: Correctness) -> Self
         ensures { result ≡ corr_first sub }
     {
-        let base = sub.base;
-        let input = sub.input;
-        let fits = base.is_b() & (sub.unit & sub.dissatisfiable);
-        let taken = or_b_input(Input::Zero, input);
+        let fits = sub.base.is_b() & (sub.unit & sub.dissatisfiable);
+        let taken = or_b_input(Input::Zero, sub.input);
         CorrectnessSoFar { fits, input: taken }
     }
 
@@ -621,20 +567,16 @@ impl CorrectnessSoFar {
     pub fn next(self, sub: Correctness) -> Self
         ensures { result ≡ corr_next self sub }
     {
-        let base = sub.base;
-        let input = sub.input;
-        let before = self.input;
-        let fits = self.fits & (base.is_w() & (sub.unit & sub.dissatisfiable));
-        let taken = or_b_input(before, input);
+        let fits = self.fits & (sub.base.is_w() & (sub.unit & sub.dissatisfiable));
+        let taken = or_b_input(self.input, sub.input);
         CorrectnessSoFar { fits, input: taken }
     }
 
     // The correctness of a threshold over these children.
-    pub fn threshold(self) -> CorrectnessResult
+    pub fn threshold(self) -> Result<Correctness, TypeError>
         ensures { result ≡ corr_result self }
     {
-        let input = self.input;
-        ok_if(self.fits, Base::B, input, true, true)
+        ok_if(self.fits, Base::B, self.input, true, true)
     }
 }
 

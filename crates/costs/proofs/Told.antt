@@ -3,7 +3,7 @@ use Rattle.std.proofs.Common.{◌≡◌, true, false, sym, refl}
 use mathlib.Core.Bool.{false≢true}
 use lib.Ieee.{Float, nan, inf, fin, lt}
 use Rattle.words.specs.Floats.{is_cost}
-use Rattle.costs.specs.Names.{Finite, Never, NotACost}
+use Rattle.costs.specs.Names.{Finite, Never}
 use Rattle.costs.specs.Price.{price_of}
 
 pub price-finite : (x : Float) → is_cost x ≡ true → lt x (inf false) ≡ true → Finite x ≡ price_of x
@@ -21,10 +21,3 @@ price-never (inf true) h k = absurd (false≢true h)
 price-never (inf false) h k = refl
 price-never (fin true m e) h k = absurd (false≢true h)
 price-never (fin false m e) h k = absurd (false≢true (sym k))
-
-pub price-none : (x : Float) → is_cost x ≡ false → NotACost ≡ price_of x
-price-none nan h = refl
-price-none (inf true) h = refl
-price-none (inf false) h = absurd (false≢true (sym h))
-price-none (fin true m e) h = refl
-price-none (fin false m e) h = absurd (false≢true (sym h))

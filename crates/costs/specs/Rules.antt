@@ -1,24 +1,24 @@
 -- The cost rules, from CompilerExtData in policy/compiler.rs, in its order and under its names: document 01, "Modules, leaves first", 3.
 -- The probabilities of branches are arguments, and a missing dissatisfaction cost that the Rust unwraps is the answer Missing. Assumes nothing.
-use Rattle.std.specs.Prelude.{ℕ, ◌+◌, ◌-◌, cond, List, [], ◌∷◌, take, Float}
+use Rattle.std.specs.Prelude.{ℕ, ◌+◌, ◌-◌, cond, List, [], ◌∷◌, take, Float, Option, None, Some}
 use Rattle.std.specs.Float.Ieee.{lt}
-use Rattle.costs.specs.Names.{SigType, Ecdsa, Schnorr, DissatCost, Some, None, Cost, Costed}
+use Rattle.costs.specs.Names.{SigType, Ecdsa, Schnorr, Cost}
 use Rattle.costs.specs.Arithmetic.{◌⊕◌, ◌⊖◌, ◌⊗◌, ◌⊘◌, float_of, 0·, 1·, 2·, 33·, 34·, 64·, 66·, 73·, MAX}
 
 -- a cost, of its satisfaction cost and its dissatisfaction cost
-abbrev pub cost : Float → DissatCost → Cost
+abbrev pub cost : Float → Option Float → Cost
 cost sat dissat = record { sat_cost = sat; dissat_cost = dissat }
 
 abbrev pub sat : Cost → Float
 sat c = c.sat_cost
 
-abbrev pub dissat : Cost → DissatCost
+abbrev pub dissat : Cost → Option Float
 dissat c = c.dissat_cost
 
 -- what needs a dissatisfaction cost has an answer where there is one
-abbrev pub unwrap : DissatCost → (Float → Costed) → Costed
+abbrev pub unwrap : Option Float → (Float → Option Cost) → Option Cost
 unwrap (Some d) answer = answer d
-unwrap None answer = Costed.Missing
+unwrap None answer = None
 
 -- leaves
 
@@ -83,11 +83,11 @@ cast_likely c = cost (1· ⊕ sat c) (Some 2·)
 -- pairs and triples
 
 -- one dissatisfaction cost and then another, if there is one
-abbrev pub after : Float → DissatCost → DissatCost
+abbrev pub after : Float → Option Float → Option Float
 after d (Some e) = Some (d ⊕ e)
 after d None = None
 
-abbrev pub plus_dissat : DissatCost → DissatCost → DissatCost
+abbrev pub plus_dissat : Option Float → Option Float → Option Float
 plus_dissat (Some d) e = after d e
 plus_dissat None e = None
 
@@ -101,27 +101,27 @@ and_b l r = plus l r
 abbrev pub and_v : Cost → Cost → Cost
 and_v l r = cost (sat l ⊕ sat r) None
 
-unfoldable pub or_b : Cost → Cost → Float → Float → Costed
+unfoldable pub or_b : Cost → Cost → Float → Float → Option Cost
 or_b l r lprob rprob =
     unwrap (dissat l)
     λ ldis. unwrap (dissat r)
-    λ rdis. Costed.Cost (cost (lprob ⊗ (sat l ⊕ rdis) ⊕ rprob ⊗ (sat r ⊕ ldis)) (Some (ldis ⊕ rdis)))
+    λ rdis. Some (cost (lprob ⊗ (sat l ⊕ rdis) ⊕ rprob ⊗ (sat r ⊕ ldis)) (Some (ldis ⊕ rdis)))
 
-unfoldable pub or_d : Cost → Cost → Float → Float → Costed
+unfoldable pub or_d : Cost → Cost → Float → Float → Option Cost
 or_d l r lprob rprob =
     unwrap (dissat l)
-    λ ldis. Costed.Cost (cost (lprob ⊗ sat l ⊕ rprob ⊗ (sat r ⊕ ldis)) (after ldis (dissat r)))
+    λ ldis. Some (cost (lprob ⊗ sat l ⊕ rprob ⊗ (sat r ⊕ ldis)) (after ldis (dissat r)))
 
-unfoldable pub or_c : Cost → Cost → Float → Float → Costed
+unfoldable pub or_c : Cost → Cost → Float → Float → Option Cost
 or_c l r lprob rprob =
     unwrap (dissat l)
-    λ ldis. Costed.Cost (cost (lprob ⊗ sat l ⊕ rprob ⊗ (sat r ⊕ ldis)) None)
+    λ ldis. Some (cost (lprob ⊗ sat l ⊕ rprob ⊗ (sat r ⊕ ldis)) None)
 
 -- the second where the first is more, else the first
 abbrev pub lesser : Float → Float → Float
 lesser a b = cond (lt b a) b a
 
-abbrev pub or_i_dissat : DissatCost → DissatCost → DissatCost
+abbrev pub or_i_dissat : Option Float → Option Float → Option Float
 or_i_dissat (Some ldis) (Some rdis) = Some (lesser (2· ⊕ ldis) (1· ⊕ rdis))
 or_i_dissat (Some ldis) None = Some (2· ⊕ ldis)
 or_i_dissat None (Some rdis) = Some (1· ⊕ rdis)
@@ -130,10 +130,10 @@ or_i_dissat None None = None
 unfoldable pub or_i : Cost → Cost → Float → Float → Cost
 or_i l r lprob rprob = cost (lprob ⊗ (2· ⊕ sat l) ⊕ rprob ⊗ (1· ⊕ sat r)) (or_i_dissat (dissat l) (dissat r))
 
-unfoldable pub and_or : Cost → Cost → Cost → Float → Float → Costed
+unfoldable pub and_or : Cost → Cost → Cost → Float → Float → Option Cost
 and_or a b c aprob cprob =
     unwrap (dissat a)
-    λ adis. Costed.Cost (cost (aprob ⊗ (sat a ⊕ sat b) ⊕ cprob ⊗ (adis ⊕ sat c)) (after adis (dissat c)))
+    λ adis. Some (cost (aprob ⊗ (sat a ⊕ sat b) ⊕ cprob ⊗ (adis ⊕ sat c)) (after adis (dissat c)))
 
 -- thresholds
 
@@ -146,11 +146,11 @@ unfoldable pub plus_all : Cost → List Cost → Cost
 plus_all sum [] = sum
 plus_all sum (c ∷ cs) = plus_all (plus sum c) cs
 
-abbrev pub threshold_of : Float → Cost → Costed
+abbrev pub threshold_of : Float → Cost → Option Cost
 threshold_of k_over_n sum =
     unwrap (dissat sum)
-    λ d. Costed.Cost (cost (sat sum ⊗ k_over_n ⊕ d ⊗ (1· ⊖ k_over_n)) (Some d))
+    λ d. Some (cost (sat sum ⊗ k_over_n ⊕ d ⊗ (1· ⊖ k_over_n)) (Some d))
 
 -- k of the first n
-unfoldable pub threshold : ℕ → ℕ → List Cost → Costed
+unfoldable pub threshold : ℕ → ℕ → List Cost → Option Cost
 threshold k n subs = threshold_of (float_of k ⊘ float_of n) (plus_all nothing (take n subs))

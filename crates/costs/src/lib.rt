@@ -10,7 +10,7 @@ ghost use Rattle.std.specs.Prelude.{◌≡◌, ◌-◌, min, take};
 ghost use Rattle.costs.specs.Rules.{TRUE, FALSE, pk_k, pk_h, multi, multi_a, hash, time};
 ghost use Rattle.costs.specs.Rules.{cast_alt, cast_swap, cast_check, cast_dupif, cast_verify, cast_nonzero};
 ghost use Rattle.costs.specs.Rules.{cast_zeronotequal, cast_true, cast_unlikely, cast_likely};
-ghost use Rattle.costs.specs.Rules.{after, plus, and_b, and_v, or_b, or_d, or_c, lesser, or_i_dissat, or_i, and_or};
+ghost use Rattle.costs.specs.Rules.{after, plus_dissat, plus, and_b, and_v, or_b, or_d, or_c, lesser, or_i_dissat, or_i, and_or};
 ghost use Rattle.costs.specs.Rules.{nothing, plus_all, threshold};
 ghost use Rattle.costs.specs.Cost1d.{last_term, cost1d};
 ghost use Rattle.costs.specs.Weights.{weights};
@@ -30,54 +30,25 @@ pub enum SigType {
     Schnorr,
 }
 
-// What dissatisfying a fragment costs, if it can be dissatisfied.
-#[derive(Clone, Copy)]
-pub enum DissatCost {
-    Some(f64),
-    None,
-}
-
 // What satisfying and dissatisfying a fragment cost, in bytes of the witness.
 #[derive(Clone, Copy)]
 pub struct Cost {
     pub sat_cost: f64,
-    pub dissat_cost: DissatCost,
-}
-
-// What a rule answers that needs a child's dissatisfaction cost: the cost, or that the needed one is missing.
-#[derive(Clone, Copy)]
-pub enum Costed {
-    Cost(Cost),
-    Missing,
-}
-
-// How many of n are not among k.
-fn others(k: u16, n: u16) -> u16
-    ensures { result ≡ n - k }
-{
-    if k < n { n - k } else { 0 }
-}
-
-// How many of n children there is room for.
-fn children(n: u16) -> usize
-    ensures { result ≡ min n 16 }
-{
-    let count = n as usize;
-    if count < MAX_CHILDREN {
-        count
-    } else {
-        MAX_CHILDREN
-    }
+    pub dissat_cost: Option<f64>,
 }
 
 // One dissatisfaction cost and then another, if there is one.
-fn after(first: f64, second: DissatCost) -> DissatCost
+fn after(first: f64, second: Option<f64>) -> Option<f64>
     ensures { result ≡ after first second }
 {
-    match second {
-        DissatCost::Some(d) => DissatCost::Some(first + d),
-        DissatCost::None => DissatCost::None,
-    }
+    Some(first + second?)
+}
+
+// The sum of two dissatisfaction costs, if there are both.
+fn plus_dissat(first: Option<f64>, second: Option<f64>) -> Option<f64>
+    ensures { result ≡ plus_dissat first second }
+{
+    after(first?, second)
 }
 
 // The lesser of two costs, the first where they cannot be told apart.
@@ -88,18 +59,14 @@ fn lesser(a: f64, b: f64) -> f64
 }
 
 // What dissatisfying an OrI costs: the cheaper branch, with the element that chooses it.
-fn or_i_dissat(l: DissatCost, r: DissatCost) -> DissatCost
+fn or_i_dissat(l: Option<f64>, r: Option<f64>) -> Option<f64>
     ensures { result ≡ or_i_dissat l r }
 {
-    match l {
-        DissatCost::Some(ldis) => match r {
-            DissatCost::Some(rdis) => DissatCost::Some(lesser(2.0 + ldis, 1.0 + rdis)),
-            DissatCost::None => DissatCost::Some(2.0 + ldis),
-        },
-        DissatCost::None => match r {
-            DissatCost::Some(rdis) => DissatCost::Some(1.0 + rdis),
-            DissatCost::None => DissatCost::None,
-        },
+    match (l, r) {
+        (Some(ldis), Some(rdis)) => Some(lesser(2.0 + ldis, 1.0 + rdis)),
+        (Some(ldis), None) => Some(2.0 + ldis),
+        (None, Some(rdis)) => Some(1.0 + rdis),
+        (None, None) => None,
     }
 }
 
@@ -110,7 +77,7 @@ impl Cost {
     {
         Cost {
             sat_cost: 0.0,
-            dissat_cost: DissatCost::None,
+            dissat_cost: None,
         }
     }
 
@@ -120,7 +87,7 @@ impl Cost {
     {
         Cost {
             sat_cost: MAX,
-            dissat_cost: DissatCost::Some(0.0),
+            dissat_cost: Some(0.0),
         }
     }
 
@@ -131,11 +98,11 @@ impl Cost {
         match sig_type {
             SigType::Ecdsa => Cost {
                 sat_cost: 73.0,
-                dissat_cost: DissatCost::Some(1.0),
+                dissat_cost: Some(1.0),
             },
             SigType::Schnorr => Cost {
                 sat_cost: 1.0 + 64.0 + 1.0,
-                dissat_cost: DissatCost::Some(1.0),
+                dissat_cost: Some(1.0),
             },
         }
     }
@@ -147,11 +114,11 @@ impl Cost {
         match sig_type {
             SigType::Ecdsa => Cost {
                 sat_cost: 73.0 + 34.0,
-                dissat_cost: DissatCost::Some(1.0 + 34.0),
+                dissat_cost: Some(1.0 + 34.0),
             },
             SigType::Schnorr => Cost {
                 sat_cost: 66.0 + 33.0,
-                dissat_cost: DissatCost::Some(1.0 + 33.0),
+                dissat_cost: Some(1.0 + 33.0),
             },
         }
     }
@@ -163,7 +130,7 @@ impl Cost {
         let next = k as u32 + 1;
         Cost {
             sat_cost: 1.0 + 73.0 * k as f64,
-            dissat_cost: DissatCost::Some(1.0 * next as f64),
+            dissat_cost: Some(1.0 * next as f64),
         }
     }
 
@@ -171,10 +138,10 @@ impl Cost {
     pub fn multi_a(k: u16, n: u16) -> Cost
         ensures { result ≡ multi_a k n }
     {
-        let rest = others(k, n);
+        let others = n.saturating_sub(k);
         Cost {
-            sat_cost: 66.0 * k as f64 + rest as f64,
-            dissat_cost: DissatCost::Some(n as f64),
+            sat_cost: 66.0 * k as f64 + others as f64,
+            dissat_cost: Some(n as f64),
         }
     }
 
@@ -184,7 +151,7 @@ impl Cost {
     {
         Cost {
             sat_cost: 33.0,
-            dissat_cost: DissatCost::Some(33.0),
+            dissat_cost: Some(33.0),
         }
     }
 
@@ -194,7 +161,7 @@ impl Cost {
     {
         Cost {
             sat_cost: 0.0,
-            dissat_cost: DissatCost::None,
+            dissat_cost: None,
         }
     }
 
@@ -202,33 +169,21 @@ impl Cost {
     pub fn cast_alt(self) -> Cost
         ensures { result ≡ cast_alt self }
     {
-        let dissat_cost = self.dissat_cost;
-        Cost {
-            sat_cost: self.sat_cost,
-            dissat_cost,
-        }
+        self
     }
 
     // The cost of Swap over this.
     pub fn cast_swap(self) -> Cost
         ensures { result ≡ cast_swap self }
     {
-        let dissat_cost = self.dissat_cost;
-        Cost {
-            sat_cost: self.sat_cost,
-            dissat_cost,
-        }
+        self
     }
 
     // The cost of Check over this.
     pub fn cast_check(self) -> Cost
         ensures { result ≡ cast_check self }
     {
-        let dissat_cost = self.dissat_cost;
-        Cost {
-            sat_cost: self.sat_cost,
-            dissat_cost,
-        }
+        self
     }
 
     // The cost of DupIf over this.
@@ -237,7 +192,7 @@ impl Cost {
     {
         Cost {
             sat_cost: 2.0 + self.sat_cost,
-            dissat_cost: DissatCost::Some(1.0),
+            dissat_cost: Some(1.0),
         }
     }
 
@@ -247,7 +202,7 @@ impl Cost {
     {
         Cost {
             sat_cost: self.sat_cost,
-            dissat_cost: DissatCost::None,
+            dissat_cost: None,
         }
     }
 
@@ -257,7 +212,7 @@ impl Cost {
     {
         Cost {
             sat_cost: self.sat_cost,
-            dissat_cost: DissatCost::Some(1.0),
+            dissat_cost: Some(1.0),
         }
     }
 
@@ -265,11 +220,7 @@ impl Cost {
     pub fn cast_zeronotequal(self) -> Cost
         ensures { result ≡ cast_zeronotequal self }
     {
-        let dissat_cost = self.dissat_cost;
-        Cost {
-            sat_cost: self.sat_cost,
-            dissat_cost,
-        }
+        self
     }
 
     // The cost of the cast AndV(X, True), over this.
@@ -278,7 +229,7 @@ impl Cost {
     {
         Cost {
             sat_cost: self.sat_cost,
-            dissat_cost: DissatCost::None,
+            dissat_cost: None,
         }
     }
 
@@ -288,7 +239,7 @@ impl Cost {
     {
         Cost {
             sat_cost: 2.0 + self.sat_cost,
-            dissat_cost: DissatCost::Some(1.0),
+            dissat_cost: Some(1.0),
         }
     }
 
@@ -298,7 +249,7 @@ impl Cost {
     {
         Cost {
             sat_cost: 1.0 + self.sat_cost,
-            dissat_cost: DissatCost::Some(2.0),
+            dissat_cost: Some(2.0),
         }
     }
 
@@ -306,20 +257,9 @@ impl Cost {
     fn plus(self, other: Cost) -> Cost
         ensures { result ≡ plus self other }
     {
-        let first = self.dissat_cost;
-        let second = other.dissat_cost;
-        match first {
-            DissatCost::Some(d) => {
-                let dissat_cost = after(d, second);
-                Cost {
-                    sat_cost: self.sat_cost + other.sat_cost,
-                    dissat_cost,
-                }
-            }
-            DissatCost::None => Cost {
-                sat_cost: self.sat_cost + other.sat_cost,
-                dissat_cost: DissatCost::None,
-            },
+        Cost {
+            sat_cost: self.sat_cost + other.sat_cost,
+            dissat_cost: plus_dissat(self.dissat_cost, other.dissat_cost),
         }
     }
 
@@ -336,89 +276,68 @@ impl Cost {
     {
         Cost {
             sat_cost: left.sat_cost + right.sat_cost,
-            dissat_cost: DissatCost::None,
+            dissat_cost: None,
         }
     }
 
     // The cost of OrB, its branches taken with these probabilities.
-    pub fn or_b(l: Cost, r: Cost, lprob: f64, rprob: f64) -> Costed
+    #[tactic(auto, unfolding(crate::specs::Rules::or_b))]
+    pub fn or_b(l: Cost, r: Cost, lprob: f64, rprob: f64) -> Option<Cost>
         ensures { result ≡ or_b l r lprob rprob }
     {
-        let l_dissat = l.dissat_cost;
-        let r_dissat = r.dissat_cost;
-        match l_dissat {
-            DissatCost::Some(ldis) => match r_dissat {
-                DissatCost::Some(rdis) => Costed::Cost(Cost {
-                    sat_cost: lprob * (l.sat_cost + rdis) + rprob * (r.sat_cost + ldis),
-                    dissat_cost: DissatCost::Some(ldis + rdis),
-                }),
-                DissatCost::None => Costed::Missing,
-            },
-            DissatCost::None => Costed::Missing,
-        }
+        let ldis = l.dissat_cost?;
+        let rdis = r.dissat_cost?;
+        Some(Cost {
+            sat_cost: lprob * (l.sat_cost + rdis) + rprob * (r.sat_cost + ldis),
+            dissat_cost: Some(ldis + rdis),
+        })
     }
 
     // The cost of OrD, its branches taken with these probabilities.
-    pub fn or_d(l: Cost, r: Cost, lprob: f64, rprob: f64) -> Costed
+    #[tactic(auto, unfolding(crate::specs::Rules::or_d))]
+    pub fn or_d(l: Cost, r: Cost, lprob: f64, rprob: f64) -> Option<Cost>
         ensures { result ≡ or_d l r lprob rprob }
     {
-        let l_dissat = l.dissat_cost;
-        let r_dissat = r.dissat_cost;
-        match l_dissat {
-            DissatCost::Some(ldis) => {
-                let dissat_cost = after(ldis, r_dissat);
-                Costed::Cost(Cost {
-                    sat_cost: lprob * l.sat_cost + rprob * (r.sat_cost + ldis),
-                    dissat_cost,
-                })
-            }
-            DissatCost::None => Costed::Missing,
-        }
+        let ldis = l.dissat_cost?;
+        Some(Cost {
+            sat_cost: lprob * l.sat_cost + rprob * (r.sat_cost + ldis),
+            dissat_cost: after(ldis, r.dissat_cost),
+        })
     }
 
     // The cost of OrC, its branches taken with these probabilities.
-    pub fn or_c(l: Cost, r: Cost, lprob: f64, rprob: f64) -> Costed
+    #[tactic(auto, unfolding(crate::specs::Rules::or_c))]
+    pub fn or_c(l: Cost, r: Cost, lprob: f64, rprob: f64) -> Option<Cost>
         ensures { result ≡ or_c l r lprob rprob }
     {
-        let l_dissat = l.dissat_cost;
-        match l_dissat {
-            DissatCost::Some(ldis) => Costed::Cost(Cost {
-                sat_cost: lprob * l.sat_cost + rprob * (r.sat_cost + ldis),
-                dissat_cost: DissatCost::None,
-            }),
-            DissatCost::None => Costed::Missing,
-        }
+        let ldis = l.dissat_cost?;
+        Some(Cost {
+            sat_cost: lprob * l.sat_cost + rprob * (r.sat_cost + ldis),
+            dissat_cost: None,
+        })
     }
 
     // The cost of OrI, its branches taken with these probabilities.
+    #[tactic(auto, unfolding(crate::specs::Rules::or_i))]
     pub fn or_i(l: Cost, r: Cost, lprob: f64, rprob: f64) -> Cost
         ensures { result ≡ or_i l r lprob rprob }
     {
-        let l_dissat = l.dissat_cost;
-        let r_dissat = r.dissat_cost;
-        let dissat_cost = or_i_dissat(l_dissat, r_dissat);
         Cost {
             sat_cost: lprob * (2.0 + l.sat_cost) + rprob * (1.0 + r.sat_cost),
-            dissat_cost,
+            dissat_cost: or_i_dissat(l.dissat_cost, r.dissat_cost),
         }
     }
 
     // The cost of AndOr, a and b taken with the one probability and c with the other.
-    pub fn and_or(a: Cost, b: Cost, c: Cost, aprob: f64, cprob: f64) -> Costed
+    #[tactic(auto, unfolding(crate::specs::Rules::and_or))]
+    pub fn and_or(a: Cost, b: Cost, c: Cost, aprob: f64, cprob: f64) -> Option<Cost>
         ensures { result ≡ and_or a b c aprob cprob }
     {
-        let a_dissat = a.dissat_cost;
-        let c_dissat = c.dissat_cost;
-        match a_dissat {
-            DissatCost::Some(adis) => {
-                let dissat_cost = after(adis, c_dissat);
-                Costed::Cost(Cost {
-                    sat_cost: aprob * (a.sat_cost + b.sat_cost) + cprob * (adis + c.sat_cost),
-                    dissat_cost,
-                })
-            }
-            DissatCost::None => Costed::Missing,
-        }
+        let adis = a.dissat_cost?;
+        Some(Cost {
+            sat_cost: aprob * (a.sat_cost + b.sat_cost) + cprob * (adis + c.sat_cost),
+            dissat_cost: after(adis, c.dissat_cost),
+        })
     }
 
     // The sum of the costs of the first n children.
@@ -427,33 +346,27 @@ impl Cost {
     {
         let mut sum = Cost {
             sat_cost: 0.0,
-            dissat_cost: DissatCost::Some(0.0),
+            dissat_cost: Some(0.0),
         };
-        let count = children(n);
-        let mut i: usize = 0;
-        while i < count {
-            let sub = subs[i];
-            sum = sum.plus(sub);
-            i += 1;
+        let count = (n as usize).min(MAX_CHILDREN);
+        for i in 0..count {
+            sum = sum.plus(subs[i]);
         }
         sum
     }
 
     // The cost of a Thresh of k of the first n children.
-    pub fn threshold(k: u16, n: u16, subs: [Cost; 16]) -> Costed
+    #[tactic(auto, unfolding(crate::specs::Rules::threshold))]
+    pub fn threshold(k: u16, n: u16, subs: [Cost; 16]) -> Option<Cost>
         ensures { result ≡ threshold k n subs }
     {
         let k_over_n = k as f64 / n as f64;
         let sum = Cost::sum(n, subs);
-        let sat_cost = sum.sat_cost;
-        let dissat = sum.dissat_cost;
-        match dissat {
-            DissatCost::Some(dissat_cost) => Costed::Cost(Cost {
-                sat_cost: sat_cost * k_over_n + dissat_cost * (1.0 - k_over_n),
-                dissat_cost: DissatCost::Some(dissat_cost),
-            }),
-            DissatCost::None => Costed::Missing,
-        }
+        let dissat_cost = sum.dissat_cost?;
+        Some(Cost {
+            sat_cost: sum.sat_cost * k_over_n + dissat_cost * (1.0 - k_over_n),
+            dissat_cost: Some(dissat_cost),
+        })
     }
 }
 
@@ -465,32 +378,23 @@ pub enum Price {
     NotACost,
 }
 
-// The probability that a fragment is dissatisfied; None where it never is.
-#[derive(Clone, Copy)]
-pub enum DissatProb {
-    Some(f64),
-    None,
-}
-
 // What dissatisfaction adds to a candidate's cost.
-fn last_term(dissat_prob: DissatProb, dissat_cost: DissatCost) -> f64
+fn last_term(dissat_prob: Option<f64>, dissat_cost: Option<f64>) -> f64
     ensures { result ≡ last_term dissat_prob dissat_cost }
 {
-    match dissat_prob {
-        DissatProb::Some(prob) => match dissat_cost {
-            DissatCost::Some(cost) => prob * cost,
-            DissatCost::None => 1.0 / 0.0,
-        },
-        DissatProb::None => 0.0,
+    match (dissat_prob, dissat_cost) {
+        (Some(prob), Some(cost)) => prob * cost,
+        (Some(_), None) => 1.0 / 0.0,
+        (None, _) => 0.0,
     }
 }
 
 // What a candidate costs: the bytes of its script, and what its witness costs at these probabilities.
-pub fn cost_1d(pk_cost: u32, cost: Cost, sat_prob: f64, dissat_prob: DissatProb) -> Price
+#[tactic(auto, unfolding(crate::specs::Cost1d::total1d, crate::specs::Cost1d::cost1d))]
+pub fn cost_1d(pk_cost: u32, cost: Cost, sat_prob: f64, dissat_prob: Option<f64>) -> Price
     ensures { result ≡ cost1d pk_cost cost sat_prob dissat_prob }
 {
-    let dissat_cost = cost.dissat_cost;
-    let last = last_term(dissat_prob, dissat_cost);
+    let last = last_term(dissat_prob, cost.dissat_cost);
     Price::of(pk_cost as f64 + cost.sat_cost * sat_prob + last)
 }
 

@@ -11,13 +11,13 @@ impl Price {
     pub fn of(x: f64) -> Price
         ensures { result ≡ price_of x }
     {
-        if is_cost(x) {
-            if x < 1.0 / 0.0 {
-                return Price::Finite(x);
-            }
-            return Price::Never;
+        if !is_cost(x) {
+            Price::NotACost
+        } else if x < 1.0 / 0.0 {
+            Price::Finite(x)
+        } else {
+            Price::Never
         }
-        Price::NotACost
     }
 
     // Whether this is the same cost or a lower one: finite ones as their bits order, and never above them.
@@ -60,8 +60,7 @@ impl Price {
     {
         match self {
             Price::Finite(x) => word_of_float(x),
-            Price::Never => 0,
-            Price::NotACost => 0,
+            Price::Never | Price::NotACost => 0,
         }
     }
 
@@ -69,10 +68,6 @@ impl Price {
     pub fn never(self) -> u32
         ensures { result ≡ never_flag self }
     {
-        match self {
-            Price::Finite(_) => 0,
-            Price::Never => 1,
-            Price::NotACost => 0,
-        }
+        matches!(self, Price::Never) as u32
     }
 }

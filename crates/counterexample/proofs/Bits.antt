@@ -1,10 +1,11 @@
 -- The bits of a word one by one, and where two words differ. Assumes nothing.
 use Prim.Native.Nat.{ℕ, suc, ◌+◌, ◌/◌, ◌%◌, ◌^◌, ◌≤◌, ◌<◌}
-use mathlib.Core.Bool.{Bool, true, false, not, ◌&&◌}
+use mathlib.Core.Bool.{Bool, true, false, not, beq}
 use mathlib.Core.Path.{◌≡◌, refl, sym, ap, ◌∙◌}
 use native.Mathlib.Omega.{arith}
 use native.Mathlib.Nat.{div-one, div-div-eq-div-mul, pow-suc}
 use lib.Dec.{eqb}
+use Rattle.std.specs.Prelude.{Some}
 use Rattle.truth.specs.Words.{bit_at}
 use Rattle.counterexample.specs.Example.{ApartAt}
 
@@ -29,32 +30,12 @@ bit-told word j i low high e =
 
 -- ---- a bit in which two words differ
 
-alone : (a b : Bool) → a && not b ≡ true → (a ≡ true) × (b ≡ false)
-alone true false e = (refl, refl)
-alone true true e = absurd (let z : ◌≡◌ {A = ℕ} 0 1 = cc (e) in omega arith)
-alone false b e = absurd (let z : ◌≡◌ {A = ℕ} 0 1 = cc (e) in omega arith)
+other : (a b : Bool) → not (beq a b) ≡ true → b ≡ not a
+other true true e = absurd (let z : ◌≡◌ {A = ℕ} 0 1 = cc (e) in omega arith)
+other true false e = refl
+other false true e = refl
+other false false e = absurd (let z : ◌≡◌ {A = ℕ} 0 1 = cc (e) in omega arith)
 
-module _ (left right j : ℕ) (low : j < 64) {a b : Bool} (its-left : a ≡ bit_at left j) (its-right : b ≡ bit_at right j) where
-  pub left_alone : {r : Bool} → r ≡ a && not b → r ≡ true → ApartAt left right (record { found = true; bit = j; left = true })
-  left_alone is told =
-      let both = alone a b (sym is ∙ told) in
-      record {
-        low = λ e. low;
-        its-left = λ e. sym its-left ∙ both.0;
-        its-right = λ e. sym its-right ∙ both.1;
-      }
-
-  pub right-alone : {r : Bool} → r ≡ b && not a → r ≡ true → ApartAt left right (record { found = true; bit = j; left = false })
-  right-alone is told =
-      let both = alone b a (sym is ∙ told) in
-      record {
-        low = λ e. low;
-        its-left = λ e. sym its-left ∙ both.1;
-        its-right = λ e. sym its-right ∙ both.0;
-      }
-
-nothing_false : {A : Type 0} → ◌≡◌ {A = Bool} false true → A
-nothing_false e = absurd (let z : ◌≡◌ {A = ℕ} 0 1 = cc (e) in omega arith)
-
-pub not-apart : (left right : ℕ) → ApartAt left right (record { found = false; bit = 0; left = false })
-not-apart left right = record { low = λ e. nothing_false e; its-left = λ e. nothing_false e; its-right = λ e. nothing_false e }
+pub is-apart : (left right j : ℕ) → j < 64 → {a b : Bool} → a ≡ bit_at left j → b ≡ bit_at right j → not (beq a b) ≡ true
+    → ApartAt left right (Some (record { bit = j; left = a }))
+is-apart left right j low {a} {b} its-left its-right e = (low, sym its-left, sym its-right ∙ other a b e)

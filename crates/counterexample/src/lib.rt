@@ -3,7 +3,7 @@
 // The contracts cite specs/Example.antt.
 #![tactic(auto)]
 
-ghost use Rattle.std.specs.Prelude.{false, not, ◌&&◌, ◌≡◌, ◌<◌, length, get_or};
+ghost use Rattle.std.specs.Prelude.{◌≡◌, ◌<◌, length, get_or};
 ghost use Rattle.policies.specs.Policy.{Policy};
 ghost use Rattle.policies.specs.Array.{policy_at, Good};
 ghost use Rattle.policies.specs.Reading as policies;
@@ -12,10 +12,8 @@ ghost use Rattle.trees.specs.Fragment.{Fragment};
 ghost use Rattle.walk.specs.TreeRecords.{TreeRecords, Written};
 ghost use Rattle.variables.specs.Gathering.{row_of, Roomy};
 ghost use Rattle.truth.specs.Words.{bit_at, block_words};
-ghost use Rattle.counterexample.specs.Example.{ApartAt, Shows};
+ghost use Rattle.counterexample.specs.Example.{ApartAt, Shows, Tells};
 
-use policies::ReadPolicy;
-use trees::Checked;
 use variables::Vars;
 
 // The words of work memory that it takes, and the part of them that the tree check takes.
@@ -28,18 +26,16 @@ const BLOCKS: u64 = 64;
 
 const BITS: u64 = 64;
 
-// A bit in which two words differ, if one was found, and that bit of the left word.
+// A bit in which two words differ, and that bit of the left word.
 #[derive(Clone, Copy)]
 pub struct Apart {
-    pub found: bool,
     pub bit: u64,
     pub left: bool,
 }
 
-// An assignment, if one was found, by its block and its bit in the truth tables, and whether the policy holds under it.
+// An assignment, by its block and its bit in the truth tables, and whether the policy holds under it.
 #[derive(Clone, Copy)]
 pub struct Example {
-    pub found: bool,
     pub block: u64,
     pub bit: u64,
     pub holds: bool,
@@ -57,66 +53,35 @@ fn bit_of(word: u64, j: u64) -> bool
     ensures { result ≡ bit_at word j }
 {
     let mut x = word;
-    let mut i = 0;
-    while i < j {
-        x = x / 2;
-        i += 1;
+    for i in 0..j {
+        x /= 2;
     }
     x % 2 == 1
 }
 
-// The first of two alone.
-fn only(a: bool, b: bool) -> bool
-    ensures { result ≡ a && not b }
-{
-    a & !b
-}
-
 // The first bit in which two words differ.
-fn first_apart(left: u64, right: u64) -> Apart
+fn first_apart(left: u64, right: u64) -> Option<Apart>
     ensures { ApartAt left right result }
 {
-    let mut j = 0;
-    while j < BITS {
-        let a = bit_of(left, j);
-        let b = bit_of(right, j);
-        if only(a, b) {
-            return Apart {
-                found: true,
-                bit: j,
-                left: true,
-            };
+    for bit in 0..BITS {
+        let a = bit_of(left, bit);
+        let b = bit_of(right, bit);
+        if a != b {
+            return Some(Apart { bit, left: a });
         }
-        if only(b, a) {
-            return Apart {
-                found: true,
-                bit: j,
-                left: false,
-            };
-        }
-        j += 1;
     }
-    Apart {
-        found: false,
-        bit: 0,
-        left: false,
-    }
-}
-
-// No assignment.
-fn no_example() -> Example
-    ensures { result.found ≡ false }
-{
-    Example {
-        found: false,
-        block: 0,
-        bit: 0,
-        holds: false,
-    }
+    None
 }
 
 // The first assignment of a block.
-fn in_block(pol: &[u64], root: usize, tree: &[u8], work: &mut [u64], t: Vars, block: u64) -> Example
+fn in_block(
+    pol: &[u64],
+    root: usize,
+    tree: &[u8],
+    work: &mut [u64],
+    t: Vars,
+    block: u64,
+) -> Option<Example>
     requires { (Good pol.now × (root < max_records)) × (Written tree.now × ((length work.old ≡ 65536) × Roomy t)) }
     ensures shows { (f : Fragment) → TreeRecords tree.now f → Shows (policy_at pol.now root) f (row_of t) result }
     ensures work_len_unchanged { length work.new ≡ length work.old }
@@ -124,85 +89,63 @@ fn in_block(pol: &[u64], root: usize, tree: &[u8], work: &mut [u64], t: Vars, bl
     let words = truth::block_words(block);
     let left = truth::policy_word(pol, root, t, words);
     let right = truth::tree_word(tree, work, t, words);
-    let apart = first_apart(left, right);
-    Example {
-        found: apart.found,
+    let apart = first_apart(left, right)?;
+    Some(Example {
         block,
         bit: apart.bit,
         holds: apart.left,
-    }
+    })
 }
 
 // The first assignment of all.
-fn in_blocks(pol: &[u64], root: usize, tree: &[u8], work: &mut [u64], t: Vars) -> Example
+fn in_blocks(pol: &[u64], root: usize, tree: &[u8], work: &mut [u64], t: Vars) -> Option<Example>
     requires { (Good pol.now × (root < max_records)) × (Written tree.now × ((length work.old ≡ 65536) × Roomy t)) }
     ensures { (f : Fragment) → TreeRecords tree.now f → Shows (policy_at pol.now root) f (row_of t) result }
 {
-    let mut block = 0;
-    while block < BLOCKS {
-        let example = in_block(pol, root, tree, work, t, block);
-        if example.found {
-            return example;
+    for block in 0..BLOCKS {
+        if let Some(example) = in_block(pol, root, tree, work, t, block) {
+            return Some(example);
         }
-        block += 1;
     }
-    no_example()
+    None
 }
 
 // That of a policy that was read and a tree that the check passed.
-fn in_both(pol: &[u64], root: usize, tree: &[u8], work: &mut [u64]) -> Told
+fn in_both(pol: &[u64], root: usize, tree: &[u8], work: &mut [u64]) -> Option<Told>
     requires { (Good pol.now × (root < max_records)) × (Written tree.now × (length work.old ≡ 65536)) }
-    ensures { (f : Fragment) → TreeRecords tree.now f → Shows (policy_at pol.now root) f (row_of result.vars) result.example }
+    ensures { (f : Fragment) → TreeRecords tree.now f → Tells (policy_at pol.now root) f result }
 {
     let first = variables::none_yet();
     let second = variables::add_policy(pol, root, first);
     let vars = variables::add_tree(tree, second);
-    let example = in_blocks(pol, root, tree, work, vars);
-    Told { vars, example }
-}
-
-// Nothing told.
-fn nothing() -> Told
-    ensures { result.example.found ≡ false }
-{
-    let vars = variables::none_yet();
-    let example = no_example();
-    Told { vars, example }
+    let example = in_blocks(pol, root, tree, work, vars)?;
+    Some(Told { vars, example })
 }
 
 // That of a policy that was read and a tree, if the tree check passes it.
-fn in_tree(context: u32, pol: &[u64], root: usize, tree: &[u8], work: &mut [u64]) -> Told
+fn in_tree(context: u32, pol: &[u64], root: usize, tree: &[u8], work: &mut [u64]) -> Option<Told>
     requires { (Good pol.now × (root < max_records)) × (length work.old ≡ 65536) }
-    ensures { (f : Fragment) → TreeRecords tree.now f → Shows (policy_at pol.now root) f (row_of result.vars) result.example }
+    ensures { (f : Fragment) → TreeRecords tree.now f → Tells (policy_at pol.now root) f result }
 {
-    let checked = trees::check(context, tree, &mut work[0..CHECK_WORDS]);
-    match checked {
-        Checked::BadContext => nothing(),
-        Checked::BadWork => nothing(),
-        Checked::BadTree => nothing(),
-        Checked::IllTyped => nothing(),
-        Checked::TreeTooLarge => nothing(),
-        Checked::TreeTooTall => nothing(),
-        Checked::Typed(_) => in_both(pol, root, tree, work),
+    match trees::check(context, tree, &mut work[0..CHECK_WORDS]) {
+        Ok(_) => in_both(pol, root, tree, work),
+        Err(_) => None,
     }
 }
 
 // An assignment under which a policy and a tree differ, if both are read and one is found in the truth tables.
-pub fn example_of(context: u32, policy: &[u8], tree: &[u8], work: &mut [u64]) -> Told
+pub fn example_of(context: u32, policy: &[u8], tree: &[u8], work: &mut [u64]) -> Option<Told>
     ensures { (p : Policy) → read_policy policy.now ≡ policies.done p
-        → (f : Fragment) → TreeRecords tree.now f → Shows p f (row_of result.vars) result.example }
+        → (f : Fragment) → TreeRecords tree.now f → Tells p f result }
 {
-    if work.len() == WORK_WORDS {
-        let mut pol = [0u64; 2560];
-        return match policies::read_policy(policy, &mut pol) {
-            ReadPolicy::BadPolicy => nothing(),
-            ReadPolicy::ZeroWeight => nothing(),
-            ReadPolicy::PolicyTooLarge => nothing(),
-            ReadPolicy::BadArray => nothing(),
-            ReadPolicy::Root(root) => in_tree(context, &pol, root, tree, work),
-        };
+    if work.len() != WORK_WORDS {
+        return None;
     }
-    nothing()
+    let mut pol = [0u64; 2560];
+    match policies::read_policy(policy, &mut pol) {
+        Ok(root) => in_tree(context, &pol, root, tree, work),
+        Err(_) => None,
+    }
 }
 
 // Whether variable i holds under an assignment.

@@ -1,19 +1,16 @@
 -- Candidates and how they are made, from AstElemExt, Cast and all_casts in policy/compiler.rs: document 01, "Modules, leaves first", 3 and 4.
-use Rattle.std.specs.Prelude.{Bool, true, false, cond, List, [], ◌∷◌, map, ℕ, eqb, length, get_or, Float}
-use Rattle.std.proofs.Math.Option.{Option, none, some}
+use Rattle.correctness.specs.declared.TypeError.TheVariants as TypeError
+use Rattle.correctness.specs.declared.TypeError.{TypeError}
+use Rattle.std.specs.Prelude.{Bool, true, false, cond, List, [], ◌∷◌, map, ℕ, eqb, length, get_or, Float, Option, None, Some, Result, Ok, Err}
 use Rattle.contexts.specs.declared.Context.{Context}
 use Rattle.contexts.specs.declared.Context.TheVariants.{Segwitv0, Tap}
 use Rattle.types.specs.declared.«Type».{«Type»}
-use Rattle.types.specs.declared.TypeResult.{TypeResult}
-use Rattle.types.specs.declared.TypeResult.TheVariants.{Ok, IllTyped}
 use Rattle.types.specs.TypeRules as type
 use Rattle.figures.specs.declared.ExtData.{ExtData}
 use Rattle.figures.specs.Rules as ext
 use Rattle.figures.specs.Validity.{from_ast}
 use Rattle.thresholds.specs.Threshold.{threshold}
 use Rattle.costs.specs.declared.Cost.{Cost}
-use Rattle.costs.specs.declared.Costed.{Costed}
-use Rattle.costs.specs.declared.Costed.TheVariants as Costed
 use Rattle.costs.specs.declared.SigType.{SigType}
 use Rattle.costs.specs.declared.SigType.TheVariants.{Ecdsa, Schnorr}
 use Rattle.costs.specs.Rules as cost
@@ -99,9 +96,9 @@ multi Tap k keys = candidate (MultiA k keys) type.multi_a (ext.multi_a k (length
 
 -- ---- casts
 
-abbrev pub typed_as : TypeResult → Fragment → ExtData → Cost → Option Candidate
-typed_as (Ok t) f e c = some (candidate f t e c)
-typed_as IllTyped f e c = none
+abbrev pub typed_as : Result «Type» TypeError → Fragment → ExtData → Cost → Option Candidate
+typed_as (Ok t) f e c = Some (candidate f t e c)
+typed_as (Err TypeError.IllTyped) f e c = None
 
 -- a cast gives a candidate unless it is ill-typed
 abbrev pub Cast : Type 0
@@ -146,7 +143,7 @@ all_casts c =
 
 -- the cast of a number, 0 for the first; from 10 on there is none
 abbrev pub cast_no : Context → ℕ → Cast
-cast_no c n = get_or (all_casts c) n (λ x. none)
+cast_no c n = get_or (all_casts c) n (λ x. None)
 
 -- ---- pairs, triples and thresholds
 
@@ -156,13 +153,13 @@ pub data Made : Type 0 where
   missing : Made
   made : Candidate → Made
 
-abbrev pub costed_as : Fragment → «Type» → ExtData → Costed → Made
-costed_as f t e (Costed.Cost c) = made (candidate f t e c)
-costed_as f t e Costed.Missing = missing
+abbrev pub costed_as : Fragment → «Type» → ExtData → Option Cost → Made
+costed_as f t e (Some c) = made (candidate f t e c)
+costed_as f t e None = missing
 
-abbrev pub made_as : TypeResult → Fragment → ExtData → Costed → Made
+abbrev pub made_as : Result «Type» TypeError → Fragment → ExtData → Option Cost → Made
 made_as (Ok t) f e c = costed_as f t e c
-made_as IllTyped f e c = passed_over
+made_as (Err TypeError.IllTyped) f e c = passed_over
 
 -- a pair is made at the weights of its two sides
 abbrev pub Pair : Type 0
@@ -170,11 +167,11 @@ Pair = Float → Float → Candidate → Candidate → Made
 
 abbrev pub and_b : Pair
 and_b lw rw l r =
-    made_as (type.and_b l.ty r.ty) (AndB l.tree r.tree) (ext.and_b l.ext r.ext) (Costed.Cost (cost.and_b l.cost r.cost))
+    made_as (type.and_b l.ty r.ty) (AndB l.tree r.tree) (ext.and_b l.ext r.ext) (Some (cost.and_b l.cost r.cost))
 
 abbrev pub and_v : Pair
 and_v lw rw l r =
-    made_as (type.and_v l.ty r.ty) (AndV l.tree r.tree) (ext.and_v l.ext r.ext) (Costed.Cost (cost.and_v l.cost r.cost))
+    made_as (type.and_v l.ty r.ty) (AndV l.tree r.tree) (ext.and_v l.ext r.ext) (Some (cost.and_v l.cost r.cost))
 
 abbrev pub or_b : Pair
 or_b lw rw l r =
@@ -190,7 +187,7 @@ or_c lw rw l r =
 
 abbrev pub or_i : Pair
 or_i lw rw l r =
-    made_as (type.or_i l.ty r.ty) (OrI l.tree r.tree) (ext.or_i l.ext r.ext) (Costed.Cost (cost.or_i l.cost r.cost lw rw))
+    made_as (type.or_i l.ty r.ty) (OrI l.tree r.tree) (ext.or_i l.ext r.ext) (Some (cost.or_i l.cost r.cost lw rw))
 
 -- the pair of a kind's number: document 01, "Records"; of any other number all is passed over
 abbrev pub pair_no : ℕ → Pair

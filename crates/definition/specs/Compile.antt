@@ -1,10 +1,8 @@
 -- What compile gives, from best_compilation and best_t in policy/compiler.rs: document 01, "Records" (the output), "Numbers the console shows" and
 -- "Modules, leaves first", 8.
-use Rattle.std.specs.Prelude.{Bool, cond, ◌&&◌, List, [], ◌∷◌, ◌++◌, ℕ, suc, ◌+◌, leb, eqb, length}
-use Rattle.std.proofs.Math.Option.{Option, none, some}
+use Rattle.std.specs.Prelude.{Bool, cond, ◌&&◌, List, [], ◌∷◌, ◌++◌, ℕ, suc, ◌+◌, leb, eqb, length, Option, None, Some}
 use Rattle.contexts.specs.declared.Context.{Context}
 use Rattle.contexts.specs.declared.Context.TheVariants.{Segwitv0, Tap}
-use Rattle.costs.specs.declared.DissatProb.TheVariants as Prob
 use Rattle.costs.specs.declared.Price.{Price}
 use Rattle.costs.specs.Arithmetic.{1·}
 use Rattle.policies.specs.Policy.{Policy}
@@ -24,7 +22,7 @@ max_records = 4096
 
 -- the root is always satisfied and never dissatisfied
 abbrev pub root_probs : Probs
-root_probs = probs 1· Prob.None
+root_probs = probs 1· None
 
 abbrev pub if_safe : Candidate → M Candidate
 if_safe x = cond x.ty.mall.safe (pure x) (refuse TopLevelNonSafe)
@@ -59,11 +57,11 @@ compile_read c room (Reading.refused n) = refused_with n
 compile_read c room (Reading.done q) = compile_policy c room q
 
 abbrev pub compile_in : ℕ → (work_fits : Bool) → (room : ℕ) → List ℕ → Option Context → Outcome
-compile_in context work_fits room bytes none = refused_with BadContext
-compile_in context work_fits room bytes (some c) = cond work_fits (compile_read c room (read_policy bytes)) (refused_with BadWork)
+compile_in context work_fits room bytes None = refused_with BadContext
+compile_in context work_fits room bytes (Some c) = cond work_fits (compile_read c room (read_policy bytes)) (refused_with BadWork)
 
 abbrev pub context_of : ℕ → Option Context
-context_of n = cond (eqb n 0) (some Segwitv0) (cond (eqb n 1) (some Tap) none)
+context_of n = cond (eqb n 0) (Some Segwitv0) (cond (eqb n 1) (Some Tap) None)
 
 -- what compile gives for a context's number, the bytes of a policy and room for the output; `work_fits` says that the work memory has its one length
 unfoldable pub compile : (context : ℕ) → (work_fits : Bool) → (policy : List ℕ) → (room : ℕ) → Outcome

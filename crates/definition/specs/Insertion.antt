@@ -1,7 +1,6 @@
 -- Inserting a candidate into a table, and the closure of casts, from insert_elem and insert_elem_closure in policy/compiler.rs: document 01,
 -- "Modules, leaves first", 5 and 6; and document 02, R-8: what is too tall is dropped.
-use Rattle.std.specs.Prelude.{Bool, true, false, not, cond, ◌&&◌, List, [], ◌∷◌, ◌++◌, ℕ, zero, suc, leb, length}
-use Rattle.std.proofs.Math.Option.{Option, none, some}
+use Rattle.std.specs.Prelude.{Bool, true, false, not, cond, ◌&&◌, List, [], ◌∷◌, ◌++◌, ℕ, zero, suc, leb, length, Option, None, Some}
 use Rattle.contexts.specs.declared.Context.{Context}
 use Rattle.figures.specs.Validity.{check_local_validity}
 use Rattle.costs.specs.declared.Price.{Price}
@@ -82,8 +81,8 @@ joins x q o = queued o.table (cond o.accepted (q ++ x ∷ []) q)
 
 -- a candidate that was accepted waits to be cast
 abbrev pub offer : Context → Probs → Option Candidate → Queued → M Queued
-offer c p none w = pure w
-offer c p (some x) w = insert c p x w.table >>= λ o. pure (joins x w.queue o)
+offer c p None w = pure w
+offer c p (Some x) w = insert c p x w.table >>= λ o. pure (joins x w.queue o)
 
 unfoldable pub cast_all : Context → Probs → Candidate → List Cast → Queued → M Queued
 cast_all c p x [] w = pure w
@@ -102,4 +101,4 @@ closure c p (suc pops) w =
 
 -- a candidate and all that casts make of it
 unfoldable pub insert_closure : Context → Probs → Candidate → Table → M Table
-insert_closure c p x t = offer c p (some x) (queued t []) >>= λ w. closure c p max_pops w
+insert_closure c p x t = offer c p (Some x) (queued t []) >>= λ w. closure c p max_pops w

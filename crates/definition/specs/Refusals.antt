@@ -1,6 +1,5 @@
 -- What a search does besides its answer: it counts acceptances, remembers tables, and may refuse: document 01, "Numbers the console shows".
-use Rattle.std.specs.Prelude.{Bool, not, cond, ◌&&◌, List, [], ◌∷◌, ℕ, suc, ◌+◌, leb, eqb, length, Float}
-use Rattle.std.proofs.Math.Option.{Option, none, some}
+use Rattle.std.specs.Prelude.{Bool, not, cond, ◌&&◌, List, [], ◌∷◌, ℕ, suc, ◌+◌, leb, eqb, length, Float, Option, None, Some}
 use Rattle.std.specs.Float.Ieee.{eq}
 use Rattle.policies.specs.Policy.{Policy}
 use Rattle.definition.specs.SamePolicy.{same}
@@ -102,8 +101,8 @@ same_probs p q = eq p.sat q.sat && same_prob p.dissat q.dissat
 
 -- the table remembered of a policy at these probabilities, if there is one
 unfoldable pub lookup : Policy → Probs → List Stored → Option Table
-lookup q p [] = none
-lookup q p (t ∷ ts) = cond (same q t.policy && same_probs p t.at) (some t.table) (lookup q p ts)
+lookup q p [] = None
+lookup q p (t ∷ ts) = cond (same q t.policy && same_probs p t.at) (Some t.table) (lookup q p ts)
 
 -- the table remembered of a policy
 abbrev pub store : Policy → Probs → Table → M (Unit {0})

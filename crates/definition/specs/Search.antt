@@ -1,7 +1,6 @@
 -- The search for a policy's best compilations, from best_compilations, insert_best_wrapped, compile_binary, compile_tern and best in
 -- policy/compiler.rs: document 01, "Modules, leaves first", 7 and 8. It is structural on the policy.
-use Rattle.std.specs.Prelude.{Bool, true, false, cond, ◌&&◌, List, [], ◌∷◌, map, ℕ, zero, suc, eqb, length, Float}
-use Rattle.std.proofs.Math.Option.{Option, none, some}
+use Rattle.std.specs.Prelude.{Bool, true, false, cond, ◌&&◌, List, [], ◌∷◌, map, ℕ, zero, suc, eqb, length, Float, Option, None, Some}
 use Rattle.std.specs.Float.{inf}
 use Rattle.std.specs.Float.Ieee.{lt}
 use Rattle.contexts.specs.declared.Context.{Context}
@@ -10,8 +9,6 @@ use Rattle.correctness.specs.declared.Base.{Base}
 use Rattle.correctness.specs.declared.Base.TheVariants.{B, W}
 use Rattle.correctness.specs.Letters.{base_eq}
 use Rattle.malleability.specs.Letters.{is_unique}
-use Rattle.costs.specs.declared.DissatProb.{DissatProb}
-use Rattle.costs.specs.declared.DissatProb.TheVariants as Prob
 use Rattle.costs.specs.Arithmetic.{◌⊕◌, ◌⊖◌, ◌⊗◌, ◌⊘◌, float_of, 0·, 1·}
 use Rattle.costs.specs.Price.{at_most, excess}
 use Rattle.costs.specs.Weights.{weights}
@@ -35,8 +32,8 @@ for_each f [] t = pure t
 for_each f (x ∷ xs) t = f x t >>= λ t. for_each f xs t
 
 abbrev pub inserted_if_typed : Context → Probs → Option Candidate → Table → M Table
-inserted_if_typed c p none t = pure t
-inserted_if_typed c p (some x) t = insert_closure c p x t
+inserted_if_typed c p None t = pure t
+inserted_if_typed c p (Some x) t = insert_closure c p x t
 
 -- for each cast the search is asked anew, and each of its entries is cast
 unfoldable pub casts_of : Context → Probs → M Table → List Cast → Table → M Table
@@ -69,17 +66,17 @@ ternary c p g lw rw xs ys zs t =
 -- ---- choice
 
 abbrev pub cheaper : Probs → Candidate → Option Candidate → Candidate
-cheaper p x none = x
-cheaper p x (some y) = cond (at_most (cost_at p x) (cost_at p y)) x y
+cheaper p x None = x
+cheaper p x (Some y) = cond (at_most (cost_at p x) (cost_at p y)) x y
 
 -- the cheapest entry that suits, the first of them on a tie
 unfoldable pub cheapest : Probs → (Candidate → Bool) → Table → Option Candidate
-cheapest p suits [] = none
-cheapest p suits (x ∷ xs) = cond (suits x) (some (cheaper p x (cheapest p suits xs))) (cheapest p suits xs)
+cheapest p suits [] = None
+cheapest p suits (x ∷ xs) = cond (suits x) (Some (cheaper p x (cheapest p suits xs))) (cheapest p suits xs)
 
 abbrev pub chosen : Option Candidate → M Candidate
-chosen (some x) = pure x
-chosen none = refuse LimitsExceeded
+chosen (Some x) = pure x
+chosen None = refuse LimitsExceeded
 
 -- an entry of the base that is u and e
 abbrev pub suits_thresh : Base → Candidate → Bool
@@ -109,8 +106,8 @@ kept q p [] = refuse LimitsExceeded
 kept q p (x ∷ xs) = store q p (x ∷ xs) >>= λ _. pure (x ∷ xs)
 
 abbrev pub found_or : Option Table → M Table → M Table
-found_or (some t) m = pure t
-found_or none m = m
+found_or (Some t) m = pure t
+found_or None m = m
 
 -- what is remembered is not searched again
 unfoldable pub remembering : Policy → Probs → M Table → M Table
@@ -120,12 +117,12 @@ abbrev pub Body : Type 0
 Body = Probs → Again → M Table
 
 abbrev pub without : Probs → Probs
-without p = probs p.sat Prob.None
+without p = probs p.sat None
 
 -- what the body may ask for again: where the policy may be dissatisfied, its search without dissatisfaction
-abbrev pub again_at : Policy → Body → Probs → DissatProb → Again
-again_at q body p Prob.None = alone
-again_at q body p (Prob.Some d) = redo (remembering q (without p) (body (without p) alone))
+abbrev pub again_at : Policy → Body → Probs → Option Float → Again
+again_at q body p None = alone
+again_at q body p (Some d) = redo (remembering q (without p) (body (without p) alone))
 
 unfoldable pub searching : Policy → Body → Probs → M Table
 searching q body p = remembering q p (body p (again_at q body p p.dissat))
@@ -151,20 +148,20 @@ and_body c l r p g = do
 
 -- ---- Or
 
-abbrev pub or_none : DissatProb → Float
-or_none (Prob.Some d) = d
-or_none Prob.None = 0·
+abbrev pub or_none : Option Float → Float
+or_none (Some d) = d
+or_none None = 0·
 
 -- the two sides of an And beside another policy: the first of the And's sides decides
 unfoldable pub and_ors : Context → Probs → Again → Searcher → Searcher → Float → Float → Table → M Table
 and_ors c p g (plain q f) other w v t = pure t
 and_ors c p g (conjunction q f x y) other w v t = do
   let sat = w ⊗ p.sat
-  let dissat = Prob.Some (or_none p.dissat ⊕ v ⊗ p.sat)
+  let dissat = Some (or_none p.dissat ⊕ v ⊗ p.sat)
   a₁ ← search_of x (probs sat dissat)
-  a₂ ← search_of x (probs sat Prob.None)
+  a₂ ← search_of x (probs sat None)
   b₁ ← search_of y (probs sat dissat)
-  b₂ ← search_of y (probs sat Prob.None)
+  b₂ ← search_of y (probs sat None)
   z ← search_of other (probs (v ⊗ p.sat) p.dissat)
   t ← ternary c p g w v a₁ b₂ z t
   ternary c p g w v b₁ a₂ z t
@@ -179,10 +176,10 @@ pub record Four : Type 0 where
 unfoldable pub four_of : Searcher → Probs → Float → Float → M Four
 four_of s p w v = do
   let sat = w ⊗ p.sat
-  t₀ ← search_of s (probs sat (Prob.Some (or_none p.dissat ⊕ v ⊗ p.sat)))
-  t₁ ← search_of s (probs sat (Prob.Some (v ⊗ p.sat)))
+  t₀ ← search_of s (probs sat (Some (or_none p.dissat ⊕ v ⊗ p.sat)))
+  t₁ ← search_of s (probs sat (Some (v ⊗ p.sat)))
   t₂ ← search_of s (probs sat p.dissat)
-  t₃ ← search_of s (probs sat Prob.None)
+  t₃ ← search_of s (probs sat None)
   pure (record { both = t₀; other = t₁; own = t₂; none = t₃ })
 
 unfoldable pub or_body : Context → Searcher → Searcher → Float → Float → Body
@@ -249,23 +246,23 @@ arranged m (b ∷ bs) = (nth m b (b ∷ bs)).e ∷ others_as_w b m 1 bs
 
 -- the keys, if all children are keys
 abbrev pub key_or : Policy → Option (List ℕ) → Option (List ℕ)
-key_or (Key n) none = none
-key_or (Key n) (some ns) = some (n ∷ ns)
-key_or Unsatisfiable ns = none
-key_or Trivial ns = none
-key_or (Lock kind n) ns = none
-key_or (Hash kind n) ns = none
-key_or (And l r) ns = none
-key_or (Or l r lw rw) ns = none
-key_or (Thresh k xs) ns = none
+key_or (Key n) None = None
+key_or (Key n) (Some ns) = Some (n ∷ ns)
+key_or Unsatisfiable ns = None
+key_or Trivial ns = None
+key_or (Lock kind n) ns = None
+key_or (Hash kind n) ns = None
+key_or (And l r) ns = None
+key_or (Or l r lw rw) ns = None
+key_or (Thresh k xs) ns = None
 
 unfoldable pub keys_of : List Searcher → Option (List ℕ)
-keys_of [] = some []
+keys_of [] = Some []
 keys_of (s ∷ ss) = key_or (policy_of s) (keys_of ss)
 
 abbrev pub multi_of : Context → Probs → Again → ℕ → Option (List ℕ) → Table → M Table
-multi_of c p g k none t = pure t
-multi_of c p g k (some keys) t = wrapped c p g (multi c k keys) t
+multi_of c p g k None t = pure t
+multi_of c p g k (Some keys) t = wrapped c p g (multi c k keys) t
 
 -- the Ands that a Thresh with k = n folds to, with their searches
 abbrev pub and_searcher : Context → Searcher → Searcher → Searcher
@@ -284,7 +281,7 @@ folded_or c p k (s ∷ ss) t = cond (eqb k (suc (length ss))) (search_of (fold_a
 unfoldable pub thresh_body : Context → ℕ → List Searcher → Body
 thresh_body c k ss p g = do
   let k_over_n = float_of k ⊘ float_of (length ss)
-  let child = probs (p.sat ⊗ k_over_n) (Prob.Some (or_none p.dissat ⊕ (1· ⊖ k_over_n) ⊗ p.sat))
+  let child = probs (p.sat ⊗ k_over_n) (Some (or_none p.dissat ⊕ (1· ⊖ k_over_n) ⊗ p.sat))
   bs ← bests child ss
   t ← wrapped_if_made c p g (thresh_of c k (arranged (most_gaining child 0 0 (inf false) bs) bs)) []
   t ← multi_of c p g k (keys_of ss) t

@@ -1,12 +1,10 @@
 -- Tables, their keys, and what is remembered of them, from CompilationKey and PolicyCache in policy/compiler.rs: document 01, "Modules, leaves
 -- first", 5 and 7. All entries of a table have its dissatisfaction probability, so of a key's three parts that one never decides here.
-use Rattle.std.specs.Prelude.{Bool, true, false, not, cond, ◌&&◌, List, [], ◌∷◌, ℕ, ltb, Float}
+use Rattle.std.specs.Prelude.{Bool, true, false, not, cond, ◌&&◌, List, [], ◌∷◌, ℕ, ltb, Float, Option}
 use Rattle.std.specs.Float.Ieee.{eq}
 use Rattle.types.specs.Subtype.{type_sub}
 use Rattle.types.specs.TypeOrder.{pack}
 use Rattle.contexts.specs.Bools.{bool_rank}
-use Rattle.costs.specs.declared.DissatProb.{DissatProb}
-use Rattle.costs.specs.declared.DissatProb.TheVariants as Prob
 use Rattle.costs.specs.declared.Price.{Price}
 use Rattle.costs.specs.Cost1d.{cost1d}
 use Rattle.definition.specs.Candidates.{Candidate}
@@ -14,9 +12,9 @@ use Rattle.definition.specs.Candidates.{Candidate}
 -- how probable it is that a fragment is satisfied, and that it is dissatisfied, if it ever is
 pub record Probs : Type 0 where
   pub sat : Float
-  pub dissat : DissatProb
+  pub dissat : Option Float
 
-abbrev pub probs : Float → DissatProb → Probs
+abbrev pub probs : Float → Option Float → Probs
 probs s d = record { sat = s; dissat = d }
 
 -- what a candidate costs at these probabilities: a finite cost, never, or not a cost

@@ -1,7 +1,7 @@
 -- What compile asks of costs is answered as it was before never was told from dear. Assumes nothing.
 use mathlib.Core.Bool.{Bool, true, false, not, cond, ◌&&◌}
 use mathlib.Core.List.{List, [], ◌∷◌}
-use mathlib.Core.Option.{Option, none, some}
+use Rattle.std.specs.Prelude.{Option, None, Some}
 use mathlib.Core.Path.{◌≡◌, refl, sym, ap, ◌∙◌}
 use Prim.Native.Nat.{ℕ, suc}
 use lib.Dec.{T}
@@ -68,15 +68,15 @@ insert-as c p x t =
 
 module _ (p : Probs) (suits : Candidate → Bool) where
   cheaper-as : (x : Candidate) (o : Option Candidate) → cheaper p x o ≡ cheaper_before p x o
-  cheaper-as x none = refl
-  cheaper-as x (some y) = ap (λ (b : Bool). cond b x y) (at-most-as p x y)
+  cheaper-as x None = refl
+  cheaper-as x (Some y) = ap (λ (b : Bool). cond b x y) (at-most-as p x y)
 
   cheapest-as : (t : Table) → cheapest p suits t ≡ cheapest_before p suits t
   unfolding cheapest cheapest_before
   cheapest-as [] = refl
   cheapest-as (x ∷ xs) =
-      ap (λ (y : Candidate). cond (suits x) (some y) (cheapest p suits xs)) (cheaper-as x (cheapest p suits xs))
-      ∙ ap (λ (o : Option Candidate). cond (suits x) (some (cheaper_before p x o)) o) (cheapest-as xs)
+      ap (λ (y : Candidate). cond (suits x) (Some y) (cheapest p suits xs)) (cheaper-as x (cheapest p suits xs))
+      ∙ ap (λ (o : Option Candidate). cond (suits x) (Some (cheaper_before p x o)) o) (cheapest-as xs)
 
 -- ---- a Thresh's E against W
 

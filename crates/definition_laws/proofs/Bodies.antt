@@ -1,8 +1,7 @@
 -- Every search is its body, remembered. Assumes nothing.
+use Rattle.std.specs.Prelude.{Float, Option, None, Some}
 use mathlib.Core.Path.{◌≡◌, refl, sym, ◌∙◌, ap}
 use Rattle.contexts.specs.declared.Context.{Context}
-use Rattle.costs.specs.declared.DissatProb.{DissatProb}
-use Rattle.costs.specs.declared.DissatProb.TheVariants as Prob
 use Rattle.policies.specs.Policy.{Policy, Unsatisfiable, Trivial, Key, Lock, Hash, And, Or, Thresh}
 use Rattle.definition.specs.Tables.{Probs, Table}
 use Rattle.definition.specs.Refusals.{M}
@@ -20,10 +19,10 @@ search-of c (And l r) = refl
 search-of c (Or l r lw rw) = refl
 search-of c (Thresh k xs) = refl
 
-again-is : (c : Context) (q : Policy) (p : Probs) (d : DissatProb) → again_at q (body_of c q) p d ≡ again_for c q p d
+again-is : (c : Context) (q : Policy) (p : Probs) (d : Option Float) → again_at q (body_of c q) p d ≡ again_for c q p d
 unfolding searching
-again-is c q p Prob.None = refl
-again-is c q p (Prob.Some d) = ap (λ (f : Probs → M Table). redo (f (without p))) (sym (search-of c q))
+again-is c q p None = refl
+again-is c q p (Some d) = ap (λ (f : Probs → M Table). redo (f (without p))) (sym (search-of c q))
 
 -- the search of a policy: what is remembered, or what its body makes
 pub search_is : (c : Context) (q : Policy) (p : Probs) → search c q p ≡ remembering q p (body_in c q p)

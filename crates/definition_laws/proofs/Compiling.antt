@@ -1,7 +1,7 @@
 -- What compile gives is sound: a well-typed tree of base B that is safe and not malleable, written in at most 4,096 records.
 use mathlib.Core.Bool.{Bool, true, false, cond, ◌&&◌, false≢true}
 use mathlib.Core.List.{List, []}
-use mathlib.Core.Option.{Option, none, some}
+use Rattle.std.specs.Prelude.{Option, None, Some}
 use mathlib.Core.Path.{◌≡◌, refl, sym, subst}
 use Prim.Native.Nat.{ℕ, ◌+◌, ◌≤◌}
 use native.Mathlib.Omega.{arith}
@@ -129,7 +129,7 @@ refused-is-named c room q n w h = by_answer ((best_compilation-keeps c q w).from
 -- the whole of compile is sound, in the context of the number that it was given
 pub compile-is-sound : (context : ℕ) (work_fits : Bool) (policy : List ℕ) (room : ℕ) (bytes : List ℕ) (cost : Price) (nodes : ℕ) → AllBelow 256 policy →
     compile context work_fits policy room ≡ compiled bytes cost nodes →
-    (c : Context) × (context_of context ≡ some c) × Sound c room bytes nodes
+    (c : Context) × (context_of context ≡ Some c) × Sound c room bytes nodes
 unfolding compile
 compile-is-sound context work_fits policy room bytes cost nodes below h = by-context (context_of context) refl h
   where
@@ -144,6 +144,6 @@ compile-is-sound context work_fits policy room bytes cost nodes below h = by-con
     by-work c false h = not-both h
 
     by-context : (o : Option Context) → context_of context ≡ o → compile_in context work_fits room policy o ≡ compiled bytes cost nodes →
-        (c : Context) × (context_of context ≡ some c) × Sound c room bytes nodes
-    by-context none e h = not-both h
-    by-context (some c) e h = (c, e, by-work c work_fits h)
+        (c : Context) × (context_of context ≡ Some c) × Sound c room bytes nodes
+    by-context None e h = not-both h
+    by-context (Some c) e h = (c, e, by-work c work_fits h)

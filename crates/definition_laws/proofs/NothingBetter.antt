@@ -23,7 +23,7 @@ use Rattle.definition.specs.Refusals.{State, state, Res, done, refused, M, then,
 use Rattle.definition.specs.Insertion.{any, filter, worthwhile, beats, Offered, insert}
 use Rattle.definition_laws.specs.Laws as laws
 use Rattle.definition_laws.specs.Laws.{All, ◌and◌}
-use Rattle.definition_laws.specs.NothingBetter.{offers, Some, here, later, AnyTwo, nobody, first, SameKey, NothingBetter, NothingThrownAway}
+use Rattle.definition_laws.specs.NothingBetter.{offers, SomeOf, here, later, AnyTwo, nobody, first, SameKey, NothingBetter, NothingThrownAway}
 use Rattle.definition_laws.proofs.Keys.{key-self}
 use Rattle.definition_laws.proofs.Steps.{unbeaten, offered, insert-unworthy, insert-costless, insert-beaten, insert-table-full, insert-nodes-full}
 use Rattle.definition_laws.proofs.Steps.{insert-enters}
@@ -73,53 +73,53 @@ beats-self p x i = ⊎_elim (λ h. h) (λ h. h) (one-beats p x x i i (refl, refl
 
 -- ---- one entry, and any two, of a table that entries leave and enter
 
-some-map : {P Q : Candidate → Type 0} {t : Table} → ((x : Candidate) → P x → Q x) → Some P t → Some Q t
+some-map : {P Q : Candidate → Type 0} {t : Table} → ((x : Candidate) → P x → Q x) → SomeOf P t → SomeOf Q t
 some-map f (here {x} h) = here (f x h)
 some-map f (later h) = later (some-map f h)
 
-pub some-found : (q : Candidate → Bool) (t : Table) → any q t ≡ true → Some (λ x. q x ≡ true) t
+pub some-found : (q : Candidate → Bool) (t : Table) → any q t ≡ true → SomeOf (λ x. q x ≡ true) t
 unfolding any
 some-found q [] h = absurd (true≢false (sym h))
 some-found q (x ∷ xs) h = by-test (q x) refl h (some-found q xs)
   where
-    by-test : (b : Bool) → q x ≡ b → cond b true (any q xs) ≡ true → (any q xs ≡ true → Some (λ y. q y ≡ true) xs) →
-        Some (λ y. q y ≡ true) (x ∷ xs)
+    by-test : (b : Bool) → q x ≡ b → cond b true (any q xs) ≡ true → (any q xs ≡ true → SomeOf (λ y. q y ≡ true) xs) →
+        SomeOf (λ y. q y ≡ true) (x ∷ xs)
     by-test true e h r = here e
     by-test false e h r = later (r h)
 
 -- an entry is left, or it was dropped
-some_left : {P : Candidate → Type 0} (q : Candidate → Bool) {t : Table} → Some P t → Some P (filter q t) ⊎ Some (λ x. P x × (q x ≡ false)) t
+some_left : {P : Candidate → Type 0} (q : Candidate → Bool) {t : Table} → SomeOf P t → SomeOf P (filter q t) ⊎ SomeOf (λ x. P x × (q x ≡ false)) t
 unfolding filter
 some_left {P} q (here {x} {xs} h) = by-test (q x) refl
   where
-    by-test : (b : Bool) → q x ≡ b → Some P (cond b (x ∷ filter q xs) (filter q xs)) ⊎ Some (λ x. P x × (q x ≡ false)) (x ∷ xs)
+    by-test : (b : Bool) → q x ≡ b → SomeOf P (cond b (x ∷ filter q xs) (filter q xs)) ⊎ SomeOf (λ x. P x × (q x ≡ false)) (x ∷ xs)
     by-test true e = inl (here h)
     by-test false e = inr (here (h, e))
 some_left {P} q (later {x} {xs} h) = ⊎_elim (λ k. inl (by-test (q x) k)) (λ k. inr (later k)) (some_left q h)
   where
-    by-test : (b : Bool) → Some P (filter q xs) → Some P (cond b (x ∷ filter q xs) (filter q xs))
+    by-test : (b : Bool) → SomeOf P (filter q xs) → SomeOf P (cond b (x ∷ filter q xs) (filter q xs))
     by-test true k = later k
     by-test false k = k
 
-some-enter : {P : Candidate → Type 0} (x : Candidate) {t : Table} → Some P t → Some P (enter x t)
+some-enter : {P : Candidate → Type 0} (x : Candidate) {t : Table} → SomeOf P t → SomeOf P (enter x t)
 unfolding enter
 some-enter {P} x (here {x = e} {xs = es} h) = by-test (key_before e x)
   where
-    by-test : (b : Bool) → Some P (cond b (e ∷ enter x es) (x ∷ e ∷ es))
+    by-test : (b : Bool) → SomeOf P (cond b (e ∷ enter x es) (x ∷ e ∷ es))
     by-test true = here h
     by-test false = later (here h)
 some-enter {P} x (later {x = e} {xs = es} h) = by-test (key_before e x) (some-enter x h)
   where
-    by-test : (b : Bool) → Some P (enter x es) → Some P (cond b (e ∷ enter x es) (x ∷ e ∷ es))
+    by-test : (b : Bool) → SomeOf P (enter x es) → SomeOf P (cond b (e ∷ enter x es) (x ∷ e ∷ es))
     by-test true k = later k
     by-test false k = later (later h)
 
-some-entered : {P : Candidate → Type 0} (x : Candidate) (t : Table) → P x → Some P (enter x t)
+some-entered : {P : Candidate → Type 0} (x : Candidate) (t : Table) → P x → SomeOf P (enter x t)
 unfolding enter
 some-entered x [] h = here h
 some-entered {P} x (e ∷ es) h = by-test (key_before e x) (some-entered x es h)
   where
-    by-test : (b : Bool) → Some P (enter x es) → Some P (cond b (e ∷ enter x es) (x ∷ e ∷ es))
+    by-test : (b : Bool) → SomeOf P (enter x es) → SomeOf P (cond b (e ∷ enter x es) (x ∷ e ∷ es))
     by-test true k = later k
     by-test false k = here h
 
@@ -186,7 +186,7 @@ module _ (c : Context) (p : Probs) (x : Candidate) (t : Table) (s s' : State) (o
 
 -- some entry is a subtype of a candidate at the same or a lower cost
 abbrev pub Met : Probs → Candidate → Table → Type 0
-Met p y t = Some (λ e. beats p e y ≡ true) t
+Met p y t = SomeOf (λ e. beats p e y ≡ true) t
 
 -- the costs of all entries can be compared, and none beats another
 record Fine (p : Probs) (t : Table) : Type 0 where
@@ -211,7 +211,7 @@ module _ {c : Context} {p : Probs} {x : Candidate} where
   left-met (enters i a) y h =
       ⊎_elim (λ k. some-enter x k) (λ k. some-entered x _ (dropped k)) (some_left (λ e. not (beats p x e)) h)
     where
-      dropped : {t : Table} → Some (λ e. (beats p e y ≡ true) × (not (beats p x e) ≡ false)) t → beats p x y ≡ true
+      dropped : {t : Table} → SomeOf (λ e. (beats p e y ≡ true) × (not (beats p x e) ≡ false)) t → beats p x y ≡ true
       dropped (here {x = e} k) = beats-trans p x e y (not-false _ k.1) k.0
       dropped (later k) = dropped k
 

@@ -1,6 +1,6 @@
 -- What compile writes passes the tree check, which gives its tree and its type: specs/Laws.antt.
 use mathlib.Core.List.{List}
-use mathlib.Core.Option.{some}
+use Rattle.std.specs.Prelude.{Some}
 use mathlib.Core.Path.{◌≡◌, ap, ◌∙◌}
 use Prim.Native.Nat.{ℕ}
 use Rattle.contexts.specs.declared.Context.{Context}
@@ -17,7 +17,7 @@ use Rattle.definition_laws.specs.Laws.{Sound, Passes, CompilePasses}
 use Rattle.definition_laws.proofs.Compiling.{compiled-is-sound, compile-is-sound}
 
 -- what is sound passes
-sound-passes : (context : ℕ) {c : Context} {room : ℕ} {bytes : List ℕ} {nodes : ℕ} → context_of context ≡ some c → Sound c room bytes nodes →
+sound-passes : (context : ℕ) {c : Context} {room : ℕ} {bytes : List ℕ} {nodes : ℕ} → context_of context ≡ Some c → Sound c room bytes nodes →
     Passes context bytes
 sound-passes context {c} {bytes} k s =
     let x : Typed = record { tree = s.tree; type = s.ty } in
@@ -31,7 +31,7 @@ sound-passes context {c} {bytes} k s =
     }
 
 -- what is compiled of a policy that can be written passes, in every context
-pub compiled-passes : (context : ℕ) (c : Context) (room : ℕ) (q : Policy) (bytes : List ℕ) (cost : Price) (nodes : ℕ) → context_of context ≡ some c →
+pub compiled-passes : (context : ℕ) (c : Context) (room : ℕ) (q : Policy) (bytes : List ℕ) (cost : Price) (nodes : ℕ) → context_of context ≡ Some c →
     FormedPolicy q → compile_policy c room q ≡ compiled bytes cost nodes → Passes context bytes
 compiled-passes context c room q bytes cost nodes k w h = sound-passes context k (compiled-is-sound c room q bytes cost nodes w h)
 

@@ -2,7 +2,7 @@
 use mathlib.Core.Path.{◌≡◌, refl, ap, sym, subst, ◌∙◌}
 use mathlib.Core.Bool.{Bool, true, false, cond}
 use mathlib.Core.List.{List, [], ◌∷◌}
-use mathlib.Core.Option.{Option, none, some}
+use Rattle.std.specs.Prelude.{Option, None, Some}
 use Prim.Native.Nat.{ℕ, zero, suc, ◌≤◌}
 use native.Mathlib.Omega.{arith}
 use borrow.Author.Tests.{eqb-true}
@@ -40,9 +40,9 @@ then_is : {A B : Type 0} {P : A → Type 0} {Q : B → Type 0} {r : Answer A} {n
 then_is refused_is k = refused_is
 then_is (done_is {a} h) k = k a h
 
-given : {A : Type 0} (n : ℕ) (o : Option A) → IfDone (λ a. o ≡ some a) (or_refuse n o)
-given n (some a) = done_is refl
-given n none = refused_is
+given : {A : Type 0} (n : ℕ) (o : Option A) → IfDone (λ a. o ≡ Some a) (or_refuse n o)
+given n (Some a) = done_is refl
+given n None = refused_is
 
 unless : {A : Type 0} {P : A → Type 0} (n : ℕ) (b : Bool) (a : A) → P a → IfDone P (refuse_if n b a)
 unless n true a h = refused_is
@@ -66,22 +66,22 @@ held_at j nobody = none_is
 held_at zero (h and hs) = h
 held_at (suc j) (h and hs) = held_at j hs
 
-held-set : {slots : Slots} (j : ℕ) → Held slots → Held (set slots j none)
+held-set : {slots : Slots} (j : ℕ) → Held slots → Held (set slots j None)
 held-set j nobody = nobody
 held-set zero (h and hs) = none_is and hs
 held-set (suc j) (h and hs) = h and held-set j hs
 
-held-without : (js : List ℕ) {slots left : Slots} → Held slots → without js slots ≡ some left → Held left
+held-without : (js : List ℕ) {slots left : Slots} → Held slots → without js slots ≡ Some left → Held left
 unfolding without
 held-without [] {slots} {left} h e = (let same : slots ≡ left = cc in subst Held same h)
 held-without (j ∷ js) {slots} {left} h e = by-slot (slot slots j) (λ e. held-without js (held-set j h) e) e
   where
-    by-slot : (o : Option Policy) → (without js (set slots j none) ≡ some left → Held left) →
-        if_there o (without js (set slots j none)) ≡ some left → Held left
-    by-slot (some q) next e = next e
-    by-slot none next e = absurd (no-some e)
+    by-slot : (o : Option Policy) → (without js (set slots j None) ≡ Some left → Held left) →
+        if_there o (without js (set slots j None)) ≡ Some left → Held left
+    by-slot (Some q) next e = next e
+    by-slot None next e = absurd (no-some e)
 
-held-root : {slots : Slots} {q : Policy} → Held slots → root_of slots ≡ some q → FormedPolicy q
+held-root : {slots : Slots} {q : Policy} → Held slots → root_of slots ≡ Some q → FormedPolicy q
 unfolding root_of
 held-root nobody e = absurd (no-some e)
 held-root {q} (◌and◌ (some_is {x} h) nobody) e = (let same : x ≡ q = cc in subst FormedPolicy same h)
@@ -124,32 +124,32 @@ by_kind kind n x y h k = by-test (eqb kind n) refl
     by-test true e = h (eqb-true kind n e)
     by-test false e = k
 
-module _ (s : List ℕ) {p : Payload} (below : AllBelow 256 s) (e : policy_payload s ≡ some p) where
+module _ (s : List ℕ) {p : Payload} (below : AllBelow 256 s) (e : policy_payload s ≡ Some p) where
   -- a record is of its kind's shape
-  shape-known : (kind : ℕ) {shape : Shape} → shape_of kind ≡ some shape → kind_of s ≡ kind → payload_of shape s ≡ some p
+  shape-known : (kind : ℕ) {shape : Shape} → shape_of kind ≡ Some shape → kind_of s ≡ kind → payload_of shape s ≡ Some p
   shape-known kind known k = rw (k, known) at (policy-record s e).1
 
-  key-fine : shape_of 3 ≡ some Shape.Number → kind_of s ≡ 3 → IsU64 (number_of p)
+  key-fine : shape_of 3 ≡ Some Shape.Number → kind_of s ≡ 3 → IsU64 (number_of p)
   key-fine known k = rw (is_number s (shape-known 3 known k)) (key_below s below)
 
-  hash-fine : (kind : ℕ) → 6 ≤ kind → kind ≤ 9 → shape_of kind ≡ some Shape.Number → kind_of s ≡ kind → IsU32 (number_of p)
+  hash-fine : (kind : ℕ) → 6 ≤ kind → kind ≤ 9 → shape_of kind ≡ Some Shape.Number → kind_of s ≡ kind → IsU32 (number_of p)
   hash-fine kind low high known k =
       rw (is_number s (shape-known kind known k)) (short-below s below (short-policy s (omega (arith, k)) (omega (arith, k))))
 
-  lock-fine : (kind : ℕ) → shape_of kind ≡ some Shape.Lock → kind_of s ≡ kind → IsLock (number_of p)
+  lock-fine : (kind : ℕ) → shape_of kind ≡ Some Shape.Lock → kind_of s ≡ kind → IsLock (number_of p)
   lock-fine kind known k =
       let shaped = shape-known kind known k in
       let this = is-lock s shaped in
-      rw this (lock-bounds s (shaped ∙ ap some this))
+      rw this (lock-bounds s (shaped ∙ ap Some this))
 
-  weights-fine : shape_of or_kind ≡ some Shape.Weighted → kind_of s ≡ or_kind → IsU32 (left_weight_of p) × IsU32 (right_weight_of p)
+  weights-fine : shape_of or_kind ≡ Some Shape.Weighted → kind_of s ≡ or_kind → IsU32 (left_weight_of p) × IsU32 (right_weight_of p)
   weights-fine known k = rw (is-weighted s (shape-known or_kind known k)) (number-below 4 s 8 below, number-below 4 s 12 below)
 
-  threshold-fine : shape_of thresh_kind ≡ some Shape.Threshold → kind_of s ≡ thresh_kind → IsThreshold (k_of p) (length (children_of p))
+  threshold-fine : shape_of thresh_kind ≡ Some Shape.Threshold → kind_of s ≡ thresh_kind → IsThreshold (k_of p) (length (children_of p))
   threshold-fine known k =
       let shaped = shape-known thresh_kind known k in
       let this = is-threshold s shaped in
-      rw this (threshold-bounds s (shaped ∙ ap some this))
+      rw this (threshold-bounds s (shaped ∙ ap Some this))
 
   made-formed : (cs : List Policy) → All FormedPolicy cs → length cs ≡ length (children_of p) →
       FormedPolicy (made (kind_of s) (number_of p) (k_of p) (left_weight_of p) (right_weight_of p) cs)

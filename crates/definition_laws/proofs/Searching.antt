@@ -1,7 +1,7 @@
 -- Every search of a policy that can be written gives a proper table, and leaves a proper state that has grown: by induction on the policy.
 use mathlib.Core.Bool.{Bool, true, false, cond, ◌&&◌}
 use mathlib.Core.List.{List, [], ◌∷◌}
-use mathlib.Core.Option.{Option, none, some}
+use Rattle.std.specs.Prelude.{Option, None, Some}
 use mathlib.Core.Path.{◌≡◌, refl, sym, ap, subst, ◌∙◌}
 use Prim.Native.Nat.{ℕ, zero, suc, ◌^◌}
 use native.Mathlib.Omega.{arith}
@@ -10,8 +10,6 @@ use lib.ListN.{length}
 use lib.Ieee.{Float}
 use Rattle.contexts.specs.declared.Context.{Context}
 use Rattle.correctness.specs.declared.Base.TheVariants.{B, W}
-use Rattle.costs.specs.declared.DissatProb.{DissatProb}
-use Rattle.costs.specs.declared.DissatProb.TheVariants as Prob
 use Rattle.costs.specs.Arithmetic.{0·, 1·}
 use Rattle.costs.specs.Weights.{weights}
 use Rattle.costs.specs.Price.{at_most}
@@ -118,7 +116,7 @@ cheapest-of {P} p suits (◌and◌ {x} {xs} g gs) = by-test (suits x) refl (chea
     cheaper-of h (some_is {x = y} k) = of_two (at_most (cost_at p x) (cost_at p y)) h k
 
     by-test : (b : Bool) → suits x ≡ b → IfSome (Chosen P suits) (cheapest p suits xs) →
-        IfSome (Chosen P suits) (cond b (some (cheaper p x (cheapest p suits xs))) (cheapest p suits xs))
+        IfSome (Chosen P suits) (cond b (Some (cheaper p x (cheapest p suits xs))) (cheapest p suits xs))
     by-test true e r = some_is (cheaper-of (record { is = g; suited = e }) r)
     by-test false e r = r
 
@@ -134,7 +132,7 @@ unfolding lookup
 lookup-proper q p nobody = none_is
 lookup-proper {c} q p (◌and◌ {x = t} {xs = ts} h hs) = by-test (same q t.policy && same_probs p t.at) (lookup-proper q p hs)
   where
-    by-test : (b : Bool) → IfSome (Proper c) (lookup q p ts) → IfSome (Proper c) (cond b (some t.table) (lookup q p ts))
+    by-test : (b : Bool) → IfSome (Proper c) (lookup q p ts) → IfSome (Proper c) (cond b (Some t.table) (lookup q p ts))
     by-test true r = some_is h
     by-test false r = r
 
@@ -158,9 +156,9 @@ remembering-keeps q p h = record {
 abbrev pub BodyWell : Context → Body → Type 0
 BodyWell c body = (p : Probs) (g : Again) → AgainWell c g → Keeps c (Proper c) (body p g)
 
-again-well : {c : Context} {body : Body} (q : Policy) (p : Probs) (d : DissatProb) → BodyWell c body → AgainWell c (again_at q body p d)
-again-well q p Prob.None h = alone_is
-again-well q p (Prob.Some d) h = redo_is (remembering-keeps q (without p) (h (without p) alone alone_is))
+again-well : {c : Context} {body : Body} (q : Policy) (p : Probs) (d : Option Float) → BodyWell c body → AgainWell c (again_at q body p d)
+again-well q p None h = alone_is
+again-well q p (Some d) h = redo_is (remembering-keeps q (without p) (h (without p) alone alone_is))
 
 pub searching-keeps : {c : Context} (q : Policy) {body : Body} → BodyWell c body → (p : Probs) → Keeps c (Proper c) (searching q body p)
 unfolding searching

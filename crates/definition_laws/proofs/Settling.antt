@@ -2,7 +2,7 @@
 -- dropped later, what an entry met is met still. Assumes nothing.
 use mathlib.Core.Bool.{Bool, true, false, cond, not, ◌&&◌, true≢false}
 use mathlib.Core.List.{List, [], ◌∷◌}
-use mathlib.Core.Option.{Option, none, some}
+use Rattle.std.specs.Prelude.{Option, None, Some}
 use mathlib.Core.Path.{◌≡◌, refl, sym, ap, subst, ◌∙◌}
 use Prim.Native.Nat.{ℕ, zero, suc, ◌*◌}
 use native.Mathlib.Omega.{arith}
@@ -15,7 +15,6 @@ use Rattle.contexts.proofs.Bools.{and_l, and_r}
 use Rattle.costs.specs.declared.Price.{Price}
 use Rattle.costs.specs.declared.Price.TheVariants as Price
 use Rattle.costs.specs.Price.{is_price, at_most}
-use Rattle.costs.specs.declared.DissatProb.TheVariants as Prob
 use Rattle.costs.specs.Probabilities.{same_prob}
 use Rattle.policies.specs.Policy.{Policy}
 use Rattle.definition.specs.Candidates.{Candidate, Cast, all_casts, Made, passed_over, missing, made}
@@ -27,7 +26,7 @@ use Rattle.definition.specs.Insertion.{if_priced, any, filter, worthwhile, beats
 use Rattle.definition.specs.Insertion.{closure, insert_closure}
 use Rattle.definition.specs.Search.{redo, for_each, inserted_if_typed, casts_of, wrapped, wrapped_if_made, remembering, kept, without, search}
 use Rattle.definition_laws.specs.Laws.{All, nobody, ◌and◌, IfSome, none_is, some_is}
-use Rattle.definition_laws.specs.NothingBetter.{Some, here, later}
+use Rattle.definition_laws.specs.NothingBetter.{SomeOf, here, later}
 use Rattle.definition_laws.specs.Bodies.{body_in}
 use Rattle.definition_laws.specs.Settled.{TurnsAway, AllAway, Settled}
 use Rattle.definition_laws.proofs.SamePolicies.{same_self}
@@ -126,8 +125,8 @@ module _ (c : Context) (p : Probs) where
   insert-quiet x t = weaken (λ o l. (record { met = left-met l }, left-offered l)) (insert-left x t)
 
   offer-quiet : (x : Option Candidate) (w : Queued) → Quietly (λ v. Onto p w.table v.table × IfSome (TurnsAway c p v.table) x) (offer c p x w)
-  offer-quiet none w = pure_quiet (onto_same, none_is)
-  offer-quiet (some x) w = bind-quiet (insert-quiet x w.table) λ o k. pure_quiet (k.0, some_is k.1)
+  offer-quiet None w = pure_quiet (onto_same, none_is)
+  offer-quiet (Some x) w = bind-quiet (insert-quiet x w.table) λ o k. pure_quiet (k.0, some_is k.1)
 
   cast_all-quiet : (x : Candidate) (fs : List Cast) (w : Queued) → Quietly (λ v. Onto p w.table v.table) (cast_all c p x fs w)
   unfolding cast_all
@@ -150,13 +149,13 @@ module _ (c : Context) (p : Probs) where
       popped (x ∷ q) r = bind-quiet (cast_all-quiet x (all_casts c) (queued w.table q)) λ w k. weaken (λ t l. onto-trans k l) (r w)
 
   -- an offer with its closure
-  closed-quiet : (x : Candidate) (t : Table) → Quietly (λ u. Onto p t u × IfSome (TurnsAway c p u) (some x)) (insert_closure c p x t)
+  closed-quiet : (x : Candidate) (t : Table) → Quietly (λ u. Onto p t u × IfSome (TurnsAway c p u) (Some x)) (insert_closure c p x t)
   unfolding insert_closure
-  closed-quiet x t = bind-quiet (offer-quiet (some x) (queued t [])) λ w k. weaken (λ u l. (onto-trans k.0 l, away-onto c l k.1)) (closure-quiet max_pops w)
+  closed-quiet x t = bind-quiet (offer-quiet (Some x) (queued t [])) λ w k. weaken (λ u l. (onto-trans k.0 l, away-onto c l k.1)) (closure-quiet max_pops w)
 
   typed-quiet : (x : Option Candidate) (t : Table) → Quietly (λ u. Onto p t u × IfSome (TurnsAway c p u) x) (inserted_if_typed c p x t)
-  typed-quiet none t = pure_quiet (onto_same, none_is)
-  typed-quiet (some x) t = closed-quiet x t
+  typed-quiet None t = pure_quiet (onto_same, none_is)
+  typed-quiet (Some x) t = closed-quiet x t
 
   each-quiet : (f : Cast) (xs t : Table) →
       Quietly (λ u. Onto p t u × All (λ x. IfSome (TurnsAway c p u) (f x)) xs) (for_each (λ x. inserted_if_typed c p (f x)) xs t)
@@ -169,13 +168,13 @@ module _ (c : Context) (p : Probs) where
 
 module _ (c : Context) (q : Policy) (p : Probs) where
   -- what is remembered is found
-  finds : (p : Probs) (s : State) {t : Table} → lookup q p s.stored ≡ some t → search c q p s ≡ done t s
+  finds : (p : Probs) (s : State) {t : Table} → lookup q p s.stored ≡ Some t → search c q p s ≡ done t s
   finds p s l = ap (λ (m : M Table). m s) (search_is c q p) ∙ remembering-found q p (body_in c q p) s l
 
   all-away : {t u : Table} → Onto p t u → {fs : List Cast} {found : Table} → AllAway c p found fs t → AllAway c p found fs u
   all-away o h = all_map (λ f k. all_map (λ x l. away-onto c o l) k) h
 
-  casts-quiet : (fs : List Cast) {found t : Table} (s : State) → lookup q (without p) s.stored ≡ some found →
+  casts-quiet : (fs : List Cast) {found t : Table} (s : State) → lookup q (without p) s.stored ≡ Some found →
       Quiet (λ u. Onto p t u × AllAway c p found fs u) s (casts_of c p (search c q (without p)) fs t s)
   casts-quiet [] {found} {t} s l =
       subst (λ r. Quiet (λ u. Onto p t u × AllAway c p found [] u) s r)
@@ -197,7 +196,7 @@ module _ (c : Context) (q : Policy) (p : Probs) where
 
 -- ---- what is turned away changes nothing
 
-any_some : (q : Candidate → Bool) {t : Table} → Some (λ x. q x ≡ true) t → any q t ≡ true
+any_some : (q : Candidate → Bool) {t : Table} → SomeOf (λ x. q x ≡ true) t → any q t ≡ true
 unfolding any
 any_some q (here {x} {xs} h) = ap (λ b. cond b true (any q xs)) h
 any_some q (later {x} {xs} h) = by-test (q x) (any_some q h)
@@ -228,12 +227,12 @@ module _ (c : Context) (p : Probs) where
   closed-away : (x : Candidate) (t : Table) (s : State) → TurnsAway c p t x → insert_closure c p x t s ≡ done t s
   closed-away x t s h =
       insert_closure-is c p x t s
-      ∙ then-done (λ w. closure c p max_pops w) {r = offer c p (some x) (queued t []) s} (then-done _ (insert-away x t s h))
+      ∙ then-done (λ w. closure c p max_pops w) {r = offer c p (Some x) (queued t []) s} (then-done _ (insert-away x t s h))
       ∙ closure-nobody c p max_pops t s
 
   typed-away : (x : Option Candidate) (t : Table) (s : State) → IfSome (TurnsAway c p t) x → inserted_if_typed c p x t s ≡ done t s
-  typed-away none t s h = refl
-  typed-away (some x) t s (some_is h) = closed-away x t s h
+  typed-away None t s h = refl
+  typed-away (Some x) t s (some_is h) = closed-away x t s h
 
   each-away : (f : Cast) (xs t : Table) (s : State) → All (λ (x : Candidate). IfSome (TurnsAway c p t) (f x)) xs →
       for_each (λ x. inserted_if_typed c p (f x)) xs t s ≡ done t s
@@ -243,7 +242,7 @@ module _ (c : Context) (p : Probs) where
       ∙ then-done (λ t. for_each (λ x. inserted_if_typed c p (f x)) xs t) (typed-away (f x) t s h)
       ∙ each-away f xs t s hs
 
-  casts-away : (q : Policy) (fs : List Cast) (found t : Table) (s : State) → lookup q (without p) s.stored ≡ some found → AllAway c p found fs t →
+  casts-away : (q : Policy) (fs : List Cast) (found t : Table) (s : State) → lookup q (without p) s.stored ≡ Some found → AllAway c p found fs t →
       casts_of c p (search c q (without p)) fs t s ≡ done t s
   casts-away q [] found t s l h = casts_of-none c p _ t s
   casts-away q (f ∷ fs) found t s l (h and hs) =
@@ -277,7 +276,7 @@ module _ (c : Context) (q : Policy) (p : Probs) where
   unfolding then
   settled-skips {s} {t} h x = wrapped-redo c p (search c q (without p)) x t s ∙ skip ((closed-quiet c p x t).from s)
     where
-      skip : {r : Res Table} → Quiet (λ u. Onto p t u × IfSome (TurnsAway c p u) (some x)) s r →
+      skip : {r : Res Table} → Quiet (λ u. Onto p t u × IfSome (TurnsAway c p u) (Some x)) s r →
           then r (λ u. casts_of c p (search c q (without p)) (all_casts c) u) ≡ r
       skip stops = refl
       skip (goes {a = u} {s'} e k) =
@@ -305,11 +304,11 @@ eq_self (fin s m e) y h = level-self s (m * up e * down e)
     level-self true a = rw (eq-eqb a a refl)
     level-self false a = rw (eq-eqb a a refl)
 
-lookup-self : (q : Policy) (p : Probs) (ts : List Stored) {t : Table} → lookup q p ts ≡ some t → eq p.sat p.sat ≡ true
-lookup-self q p [] {t} h = absurd (let e : none ≡ some t = sym (lookup-none q p) ∙ h in let z : ◌≡◌ {A = ℕ} 0 1 = cc in omega (arith, z))
+lookup-self : (q : Policy) (p : Probs) (ts : List Stored) {t : Table} → lookup q p ts ≡ Some t → eq p.sat p.sat ≡ true
+lookup-self q p [] {t} h = absurd (let e : None ≡ Some t = sym (lookup-none q p) ∙ h in let z : ◌≡◌ {A = ℕ} 0 1 = cc in omega (arith, z))
 lookup-self q p (x ∷ ts) h = by-test (same q x.policy && same_probs p x.at) refl (λ t k. lookup-self q p ts k)
   where
-    by-test : (b : Bool) → (same q x.policy && same_probs p x.at) ≡ b → ((t : Table) → lookup q p ts ≡ some t → eq p.sat p.sat ≡ true)
+    by-test : (b : Bool) → (same q x.policy && same_probs p x.at) ≡ b → ((t : Table) → lookup q p ts ≡ Some t → eq p.sat p.sat ≡ true)
         → eq p.sat p.sat ≡ true
     by-test true e r = eq_self p.sat x.at.sat (and_l _ (same_prob p.dissat x.at.dissat) (and_r (same q x.policy) _ e))
     by-test false e r = r _ (sym (lookup-other q p x ts e) ∙ h)
@@ -319,45 +318,45 @@ module _ (c : Context) (q : Policy) (p : Probs) (number : eq p.sat p.sat ≡ tru
   self-same : (same q q && same_probs (without p) (without p)) ≡ true
   self-same = rw (same_self q, number)
 
-  keeps : (t : Table) (s : State) {u : Table} {s' : State} → kept q (without p) t s ≡ done u s' → lookup q (without p) s'.stored ≡ some u
+  keeps : (t : Table) (s : State) {u : Table} {s' : State} → kept q (without p) t s ≡ done u s' → lookup q (without p) s'.stored ≡ Some u
   keeps [] s h = absurd (let z : ◌≡◌ {A = ℕ} 0 1 = cc in omega (arith, z))
   keeps (x ∷ xs) s {u} {s'} h = by-room (leb (suc (length s.stored)) max_tables) refl
     where
       one : Stored
       one = record { policy = q; at = without p; table = x ∷ xs }
 
-      told : {a : Table} {v : State} → done a v ≡ done u s' → lookup q (without p) v.stored ≡ some a → lookup q (without p) s'.stored ≡ some u
+      told : {a : Table} {v : State} → done a v ≡ done u s' → lookup q (without p) v.stored ≡ Some a → lookup q (without p) s'.stored ≡ Some u
       told {a} {v} e l = let same-table : a ≡ u = cc in let same-state : v ≡ s' = cc in rw (same-table, same-state) at l
 
-      by-room : (b : Bool) → leb (suc (length s.stored)) max_tables ≡ b → lookup q (without p) s'.stored ≡ some u
+      by-room : (b : Bool) → leb (suc (length s.stored)) max_tables ≡ b → lookup q (without p) s'.stored ≡ Some u
       by-room true e = told (sym (kept-kept q (without p) x xs s e) ∙ h) (lookup-found q (without p) one s.stored self-same)
       by-room false e =
           let z : refused CacheFull ≡ done u s' = sym (kept_full q (without p) x xs s e) ∙ h in
           absurd (let z : ◌≡◌ {A = ℕ} 0 1 = cc in omega (arith, z))
 
   -- the table that a search gives is remembered
-  search-keeps : (s : State) {t : Table} {s' : State} → search c q (without p) s ≡ done t s' → lookup q (without p) s'.stored ≡ some t
+  search-keeps : (s : State) {t : Table} {s' : State} → search c q (without p) s ≡ done t s' → lookup q (without p) s'.stored ≡ Some t
   unfolding then
   search-keeps s {t} {s'} h = by-lookup (lookup q (without p) s.stored) refl
     where
       again : remembering q (without p) (body_in c q (without p)) s ≡ done t s'
       again = sym (ap (λ (m : M Table). m s) (search_is c q (without p))) ∙ h
 
-      by-body : (r : Res Table) → then r (λ t. kept q (without p) t) ≡ done t s' → lookup q (without p) s'.stored ≡ some t
+      by-body : (r : Res Table) → then r (λ t. kept q (without p) t) ≡ done t s' → lookup q (without p) s'.stored ≡ Some t
       by-body (done u v) e = keeps u v e
       by-body (refused n) e = absurd (let z : ◌≡◌ {A = ℕ} 0 1 = cc in omega (arith, z))
 
-      by-lookup : (o : Option Table) → lookup q (without p) s.stored ≡ o → lookup q (without p) s'.stored ≡ some t
-      by-lookup (some u) e =
+      by-lookup : (o : Option Table) → lookup q (without p) s.stored ≡ o → lookup q (without p) s'.stored ≡ Some t
+      by-lookup (Some u) e =
           let is : done u s ≡ done t s' = sym (remembering-found q (without p) (body_in c q (without p)) s e) ∙ again in
           let same-table : u ≡ t = cc in
           let same-state : s ≡ s' = cc in
-          ap (λ (s : State). lookup q (without p) s.stored) (sym same-state) ∙ e ∙ ap some same-table
-      by-lookup none e = by-body (body_in c q (without p) s) (sym (remembering-new q (without p) (body_in c q (without p)) s e) ∙ again)
+          ap (λ (s : State). lookup q (without p) s.stored) (sym same-state) ∙ e ∙ ap Some same-table
+      by-lookup None e = by-body (body_in c q (without p) s) (sym (remembering-new q (without p) (body_in c q (without p)) s e) ∙ again)
 
   -- the casts, once they were offered
   casts-settle : (f : Cast) (fs : List Cast) (t : Table) (s : State) {u found : Table} {s' : State} →
-      casts_of c p (search c q (without p)) (f ∷ fs) t s ≡ done u s' → lookup q (without p) s'.stored ≡ some found → AllAway c p found (f ∷ fs) u
+      casts_of c p (search c q (without p)) (f ∷ fs) t s ≡ done u s' → lookup q (without p) s'.stored ≡ Some found → AllAway c p found (f ∷ fs) u
   casts-settle f fs t s {u} {found} {s'} h l = by_answer (search c q (without p) s) refl
     where
       rest : Table → M Table
@@ -371,20 +370,20 @@ module _ (c : Context) (q : Policy) (p : Probs) (number : eq p.sat p.sat ≡ tru
           let z : refused n ≡ done u s' = sym (casts_of-next c p (search c q (without p)) f fs t s ∙ then-refused step e) ∙ h in
           absurd (let z : ◌≡◌ {A = ℕ} 0 1 = cc in omega (arith, z))
       by_answer (done xs s₁) e =
-          let there : lookup q (without p) s₁.stored ≡ some xs = search-keeps s e in
+          let there : lookup q (without p) s₁.stored ≡ Some xs = search-keeps s e in
           let same-steps : casts_of c p (search c q (without p)) (f ∷ fs) t s₁ ≡ done u s' =
           casts_of-next c p (search c q (without p)) f fs t s₁
           ∙ then-done step (finds c q p (without p) s₁ there)
           ∙ sym (casts_of-next c p (search c q (without p)) f fs t s ∙ then-done step e)
           ∙ h in
           let k = quiet-done (casts-quiet c q p (f ∷ fs) s₁ there) same-steps in
-          let is : some found ≡ some xs = sym l ∙ ap (λ ts. lookup q (without p) ts) k.0 ∙ there in
+          let is : Some found ≡ Some xs = sym l ∙ ap (λ ts. lookup q (without p) ts) k.0 ∙ there in
           let same-table : xs ≡ found = cc in
           subst (λ xs. AllAway c p xs (f ∷ fs) u) same-table k.1.1
 
 -- a candidate was wrapped, and the policy's table without dissatisfaction is remembered
 pub settles : (c : Context) (q : Policy) (p : Probs) (x : Candidate) (t : Table) (s : State) {s' : State} {u found : Table} →
-    wrapped c p (redo (search c q (without p))) x t s ≡ done u s' → lookup q (without p) s'.stored ≡ some found → Settled c q p s' u
+    wrapped c p (redo (search c q (without p))) x t s ≡ done u s' → lookup q (without p) s'.stored ≡ Some found → Settled c q p s' u
 unfolding then
 settles c q p x t s {s'} {u} {found} h l =
     record { found = found; remembered = l; away = by_answer (insert_closure c p x t s) (sym (wrapped-redo c p (search c q (without p)) x t s) ∙ h) }

@@ -1,7 +1,7 @@
 -- The definition case by case, for proofs that keep it shut: what each of its functions gives in each of its cases, in terms of `then`.
 use mathlib.Core.Bool.{Bool, true, false, cond, not, ◌&&◌}
 use mathlib.Core.List.{List, [], ◌∷◌, ◌++◌}
-use mathlib.Core.Option.{none, some}
+use Rattle.std.specs.Prelude.{None, Some}
 use mathlib.Core.Path.{◌≡◌, refl, sym, ap, ◌∙◌}
 use Prim.Native.Nat.{ℕ, zero, suc}
 use lib.Dec.{leb, eqb}
@@ -13,7 +13,6 @@ use Rattle.correctness.specs.declared.Base.TheVariants.{B, W}
 use Rattle.costs.specs.declared.Price.{Price}
 use Rattle.costs.specs.declared.Price.TheVariants as Price
 use Rattle.costs.specs.Price.{is_price, excess}
-use Rattle.costs.specs.declared.DissatProb.TheVariants as Prob
 use Rattle.costs.specs.Arithmetic.{◌⊕◌, ◌⊖◌, ◌⊗◌, ◌⊘◌, float_of, 0·, 1·}
 use Rattle.costs.specs.Weights.{weights}
 use Rattle.policies.specs.Policy.{Policy, Policies, end, ◌▹◌, Unsatisfiable, Trivial, Key, Lock, Hash, And, Or, Thresh, fold_and}
@@ -148,11 +147,11 @@ module _ (c : Context) (p : Probs) (x : Candidate) (t : Table) (s : State) where
 -- ---- the closure
 
 module _ (c : Context) (p : Probs) where
-  pub offer-none : (w : Queued) (s : State) → offer c p none w s ≡ done w s
+  pub offer-none : (w : Queued) (s : State) → offer c p None w s ≡ done w s
   offer-none w s = refl
 
   pub offer-some : (x : Candidate) (w : Queued) (s : State) →
-      offer c p (some x) w s ≡ then (insert c p x w.table s) (λ o. pure (joins x w.queue o))
+      offer c p (Some x) w s ≡ then (insert c p x w.table s) (λ o. pure (joins x w.queue o))
   offer-some x w s = refl
 
   pub cast_all-none : (x : Candidate) (w : Queued) (s : State) → cast_all c p x [] w s ≡ done w s
@@ -179,7 +178,7 @@ module _ (c : Context) (p : Probs) where
   closure-pops pops t x q s = refl
 
   pub insert_closure-is : (x : Candidate) (t : Table) (s : State) →
-      insert_closure c p x t s ≡ then (offer c p (some x) (queued t []) s) (λ w. closure c p max_pops w)
+      insert_closure c p x t s ≡ then (offer c p (Some x) (queued t []) s) (λ w. closure c p max_pops w)
   unfolding insert_closure
   insert_closure-is x t s = refl
 
@@ -206,10 +205,10 @@ for_each-append f (x ∷ xs) ys t s = by_first (f x t s) (λ t s. for_each-appen
     by_first (refused e) h = refl
 
 module _ (c : Context) (p : Probs) where
-  pub inserted_if_typed-none : (t : Table) (s : State) → inserted_if_typed c p none t s ≡ done t s
+  pub inserted_if_typed-none : (t : Table) (s : State) → inserted_if_typed c p None t s ≡ done t s
   inserted_if_typed-none t s = refl
 
-  pub inserted_if_typed-some : (x : Candidate) (t : Table) (s : State) → inserted_if_typed c p (some x) t s ≡ insert_closure c p x t s
+  pub inserted_if_typed-some : (x : Candidate) (t : Table) (s : State) → inserted_if_typed c p (Some x) t s ≡ insert_closure c p x t s
   inserted_if_typed-some x t s = refl
 
   pub casts_of-none : (m : M Table) (t : Table) (s : State) → casts_of c p m [] t s ≡ done t s
@@ -242,12 +241,12 @@ module _ (c : Context) (p : Probs) where
 
 -- ---- choice
 
-pub cheapest-none : (p : Probs) (suits : Candidate → Bool) → cheapest p suits [] ≡ none
+pub cheapest-none : (p : Probs) (suits : Candidate → Bool) → cheapest p suits [] ≡ None
 unfolding cheapest
 cheapest-none p suits = refl
 
 pub cheapest-suits : (p : Probs) (suits : Candidate → Bool) (x : Candidate) (xs : Table) → suits x ≡ true →
-    cheapest p suits (x ∷ xs) ≡ some (cheaper p x (cheapest p suits xs))
+    cheapest p suits (x ∷ xs) ≡ Some (cheaper p x (cheapest p suits xs))
 unfolding cheapest
 cheapest-suits p suits x xs h = rw h
 
@@ -258,12 +257,12 @@ cheapest-other p suits x xs h = rw h
 
 -- ---- what is remembered
 
-pub lookup-none : (q : Policy) (p : Probs) → lookup q p [] ≡ none
+pub lookup-none : (q : Policy) (p : Probs) → lookup q p [] ≡ None
 unfolding lookup
 lookup-none q p = refl
 
 pub lookup-found : (q : Policy) (p : Probs) (t : Stored) (ts : List Stored) → (same q t.policy && same_probs p t.at) ≡ true →
-    lookup q p (t ∷ ts) ≡ some t.table
+    lookup q p (t ∷ ts) ≡ Some t.table
 unfolding lookup
 lookup-found q p t ts h = rw h
 
@@ -286,47 +285,47 @@ unfolding then
 kept_full q p x xs s h = rw h
 
 module _ (q : Policy) (p : Probs) (m : M Table) (s : State) where
-  pub remembering-found : {t : Table} → lookup q p s.stored ≡ some t → remembering q p m s ≡ done t s
+  pub remembering-found : {t : Table} → lookup q p s.stored ≡ Some t → remembering q p m s ≡ done t s
   unfolding remembering
   remembering-found l = rw l
 
-  pub remembering-new : lookup q p s.stored ≡ none → remembering q p m s ≡ then (m s) (λ t. kept q p t)
+  pub remembering-new : lookup q p s.stored ≡ None → remembering q p m s ≡ then (m s) (λ t. kept q p t)
   unfolding remembering
   remembering-new l = rw l
 
-  pub remembering-refused : {e : ℕ} → lookup q p s.stored ≡ none → m s ≡ refused e → remembering q p m s ≡ refused e
+  pub remembering-refused : {e : ℕ} → lookup q p s.stored ≡ None → m s ≡ refused e → remembering q p m s ≡ refused e
   remembering-refused l h = remembering-new l ∙ then-refused (λ t. kept q p t) h
 
-  pub remembering-empty : {s' : State} → lookup q p s.stored ≡ none → m s ≡ done [] s' → remembering q p m s ≡ refused LimitsExceeded
+  pub remembering-empty : {s' : State} → lookup q p s.stored ≡ None → m s ≡ done [] s' → remembering q p m s ≡ refused LimitsExceeded
   remembering-empty l h = remembering-new l ∙ then-done (λ t. kept q p t) h
 
-  pub remembering-kept : {x : Candidate} {xs : Table} {s' : State} → lookup q p s.stored ≡ none → m s ≡ done (x ∷ xs) s' →
+  pub remembering-kept : {x : Candidate} {xs : Table} {s' : State} → lookup q p s.stored ≡ None → m s ≡ done (x ∷ xs) s' →
       leb (suc (length s'.stored)) max_tables ≡ true →
       remembering q p m s ≡ done (x ∷ xs) (state s'.accepted (record { policy = q; at = p; table = x ∷ xs } ∷ s'.stored))
   remembering-kept {x} {xs} {s'} l h f = remembering-new l ∙ then-done (λ t. kept q p t) h ∙ kept-kept q p x xs s' f
 
-  pub remembering-full : {x : Candidate} {xs : Table} {s' : State} → lookup q p s.stored ≡ none → m s ≡ done (x ∷ xs) s' →
+  pub remembering-full : {x : Candidate} {xs : Table} {s' : State} → lookup q p s.stored ≡ None → m s ≡ done (x ∷ xs) s' →
       leb (suc (length s'.stored)) max_tables ≡ false → remembering q p m s ≡ refused CacheFull
   remembering-full {x} {xs} {s'} l h f = remembering-new l ∙ then-done (λ t. kept q p t) h ∙ kept_full q p x xs s' f
 
 -- ---- searches
 
 pub searching-none : (q : Policy) (body : Body) (sat : Float) →
-    searching q body (probs sat Prob.None) ≡ remembering q (probs sat Prob.None) (body (probs sat Prob.None) alone)
+    searching q body (probs sat None) ≡ remembering q (probs sat None) (body (probs sat None) alone)
 unfolding searching
 searching-none q body sat = refl
 
 pub searching-some : (q : Policy) (body : Body) (sat d : Float) →
-    searching q body (probs sat (Prob.Some d))
-    ≡ remembering q (probs sat (Prob.Some d))
-    (body (probs sat (Prob.Some d)) (redo (remembering q (probs sat Prob.None) (body (probs sat Prob.None) alone))))
+    searching q body (probs sat (Some d))
+    ≡ remembering q (probs sat (Some d))
+    (body (probs sat (Some d)) (redo (remembering q (probs sat None) (body (probs sat None) alone))))
 unfolding searching
 searching-some q body sat d = refl
 
 -- what is asked for again is the search without dissatisfaction
 pub searching-again : (q : Policy) (body : Body) (sat d : Float) →
-    searching q body (probs sat (Prob.Some d))
-    ≡ remembering q (probs sat (Prob.Some d)) (body (probs sat (Prob.Some d)) (redo (searching q body (probs sat Prob.None))))
+    searching q body (probs sat (Some d))
+    ≡ remembering q (probs sat (Some d)) (body (probs sat (Some d)) (redo (searching q body (probs sat None))))
 unfolding searching
 searching-again q body sat d = refl
 
@@ -408,10 +407,10 @@ and_ors-plain c p g q f other w v t s = refl
 pub and_ors-steps : (c : Context) (p : Probs) (g : Again) (q : Policy) (f : Probs → M Table) (x y other : Searcher) (w v : Float)
     (t : Table) (s : State) →
     and_ors c p g (conjunction q f x y) other w v t s
-    ≡ then (search_of x (probs (w ⊗ p.sat) (Prob.Some (or_none p.dissat ⊕ v ⊗ p.sat))) s) λ a₁ s.
-    then (search_of x (probs (w ⊗ p.sat) Prob.None) s) λ a₂ s.
-    then (search_of y (probs (w ⊗ p.sat) (Prob.Some (or_none p.dissat ⊕ v ⊗ p.sat))) s) λ b₁ s.
-    then (search_of y (probs (w ⊗ p.sat) Prob.None) s) λ b₂ s.
+    ≡ then (search_of x (probs (w ⊗ p.sat) (Some (or_none p.dissat ⊕ v ⊗ p.sat))) s) λ a₁ s.
+    then (search_of x (probs (w ⊗ p.sat) None) s) λ a₂ s.
+    then (search_of y (probs (w ⊗ p.sat) (Some (or_none p.dissat ⊕ v ⊗ p.sat))) s) λ b₁ s.
+    then (search_of y (probs (w ⊗ p.sat) None) s) λ b₂ s.
     then (search_of other (probs (v ⊗ p.sat) p.dissat) s) λ z s.
     then (ternary c p g w v a₁ b₂ z t s) λ t s.
     ternary c p g w v b₁ a₂ z t s
@@ -420,10 +419,10 @@ and_ors-steps c p g q f x y other w v t s = refl
 
 pub four_of-steps : (u : Searcher) (p : Probs) (w v : Float) (s : State) →
     four_of u p w v s
-    ≡ then (search_of u (probs (w ⊗ p.sat) (Prob.Some (or_none p.dissat ⊕ v ⊗ p.sat))) s) λ t₀ s.
-    then (search_of u (probs (w ⊗ p.sat) (Prob.Some (v ⊗ p.sat))) s) λ t₁ s.
+    ≡ then (search_of u (probs (w ⊗ p.sat) (Some (or_none p.dissat ⊕ v ⊗ p.sat))) s) λ t₀ s.
+    then (search_of u (probs (w ⊗ p.sat) (Some (v ⊗ p.sat))) s) λ t₁ s.
     then (search_of u (probs (w ⊗ p.sat) p.dissat) s) λ t₂ s.
-    then (search_of u (probs (w ⊗ p.sat) Prob.None) s) λ t₃ s.
+    then (search_of u (probs (w ⊗ p.sat) None) s) λ t₃ s.
     done (record { both = t₀; other = t₁; own = t₂; none = t₃ }) s
 unfolding four_of
 four_of-steps u p w v s = refl
@@ -507,7 +506,7 @@ k_over_n k n = float_of k ⊘ float_of n
 
 -- the probabilities of a child of a Thresh of n children
 abbrev pub child_probs : Probs → (k n : ℕ) → Probs
-child_probs p k n = probs (p.sat ⊗ k_over_n k n) (Prob.Some (or_none p.dissat ⊕ (1· ⊖ k_over_n k n) ⊗ p.sat))
+child_probs p k n = probs (p.sat ⊗ k_over_n k n) (Some (or_none p.dissat ⊕ (1· ⊖ k_over_n k n) ⊗ p.sat))
 
 pub thresh_body-steps : (c : Context) (k : ℕ) (us : List Searcher) (p : Probs) (g : Again) (s : State) →
     thresh_body c k us p g s
@@ -531,7 +530,7 @@ policy-of c (And l r) = refl
 policy-of c (Or l r lw rw) = refl
 policy-of c (Thresh k xs) = refl
 
-pub keys_of-none : keys_of [] ≡ some []
+pub keys_of-none : keys_of [] ≡ Some []
 unfolding keys_of
 keys_of-none = refl
 

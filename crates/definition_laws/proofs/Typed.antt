@@ -1,8 +1,10 @@
 -- Every candidate that is made of good ones is good: its tree is well-typed, of the type that it says, has the figures that it says, and can be
 -- written.
+use Rattle.correctness.specs.declared.TypeError.TheVariants as TypeError
+use Rattle.correctness.specs.declared.TypeError.{TypeError}
 use mathlib.Core.Bool.{Bool, true, false, ◌&&◌, ◌||◌}
 use mathlib.Core.List.{List, [], ◌∷◌, map}
-use mathlib.Core.Option.{Option, some}
+use Rattle.std.specs.Prelude.{Option, None, Some, Result, Ok, Err}
 use mathlib.Core.Path.{◌≡◌, refl, ap, ◌∙◌, sym, subst}
 use Prim.Native.Nat.{ℕ, suc, ◌^◌}
 use lib.ListN.{length}
@@ -11,15 +13,13 @@ use Rattle.contexts.specs.declared.Context.{Context}
 use Rattle.contexts.specs.declared.Context.TheVariants.{Segwitv0, Tap}
 use Rattle.contexts.specs.Leaves.{LockKind, HashKind}
 use Rattle.types.specs.declared.«Type».{«Type»}
-use Rattle.types.specs.declared.TypeResult.{TypeResult}
-use Rattle.types.specs.declared.TypeResult.TheVariants.{Ok, IllTyped}
 use Rattle.correctness.specs.declared.Base.{Base}
 use Rattle.correctness.specs.declared.Base.TheVariants.{B, K, «V», W}
 use Rattle.correctness.specs.declared.Input.{Input}
 use Rattle.correctness.specs.declared.Input.TheVariants.{Zero, One, Any, OneNonZero, AnyNonZero}
 use Rattle.correctness.specs.declared.Correctness.{Correctness}
 use Rattle.malleability.specs.declared.Dissat.{Dissat}
-use Rattle.malleability.specs.declared.Dissat.TheVariants.{None, Unique, Unknown}
+use Rattle.malleability.specs.declared.Dissat.TheVariants as Dissat
 use Rattle.malleability.specs.declared.Malleability.{Malleability}
 use Rattle.correctness.specs.CorrectnessRules as corr
 use Rattle.malleability.specs.MalleabilityRules as mall
@@ -29,8 +29,6 @@ use Rattle.figures.specs.Rules as ext
 use Rattle.figures.specs.Validity.{from_ast}
 use Rattle.thresholds.specs.Threshold.{threshold}
 use Rattle.costs.specs.declared.Cost.{Cost}
-use Rattle.costs.specs.declared.Costed.{Costed}
-use Rattle.costs.specs.declared.Costed.TheVariants as Costed
 use Rattle.costs.specs.Rules as cost
 use Rattle.trees.specs.Fragment.{Fragment, Thresh, to_list}
 use Rattle.trees.specs.Typing.{type_of, types_of, all_typed, and_all}
@@ -78,13 +76,13 @@ multi-good Tap k keys w b = record { typed = refl; figured = refl; formed = (w, 
 
 -- ---- casts
 
-bind_ok : {r : TypeResult} {t : «Type»} (rule : «Type» → TypeResult) → r ≡ Ok t → typing.◌>>=◌ r rule ≡ rule t
+bind_ok : {r : Result «Type» TypeError} {t : «Type»} (rule : «Type» → Result «Type» TypeError) → r ≡ Ok t → typing.◌>>=◌ r rule ≡ rule t
 bind_ok rule e = ap (λ r. typing.◌>>=◌ r rule) e
 
-typed-as : {c : Context} (r : TypeResult) (f : Fragment) (e : ExtData) (k : Cost) →
+typed-as : {c : Context} (r : Result «Type» TypeError) (f : Fragment) (e : ExtData) (k : Cost) →
     type_of c f ≡ r → e ≡ figures_of c f → WellFormed f → IfSome (Good c) (typed_as r f e k)
 typed-as (Ok t) f e k p q w = some_is (record { typed = p; figured = q; formed = w })
-typed-as IllTyped f e k p q w = none_is
+typed-as (Err TypeError.IllTyped) f e k p q w = none_is
 
 -- the three casts that are pairs with a constant have its type
 
@@ -134,9 +132,9 @@ unlikely-mall x = by-dissat x.dissat
     by-dissat : (d : Dissat) →
         mall.or_i (mall.malleability d x.safe x.non_malleable) mall.FALSE
         ≡ mall.cast_or_i_false (mall.malleability d x.safe x.non_malleable)
-    by-dissat None = simp (and-true, or-true)
-    by-dissat Unique = simp (and-true, or-true)
-    by-dissat Unknown = simp (and-true, or-true)
+    by-dissat Dissat.None = simp (and-true, or-true)
+    by-dissat Dissat.Unique = simp (and-true, or-true)
+    by-dissat Dissat.Unknown = simp (and-true, or-true)
 
 unlikely-type : (t : «Type») → type.or_i t type.FALSE ≡ type.cast_unlikely t
 unlikely-type t = rw (unlikely-corr t.corr, unlikely-mall t.mall)
@@ -218,17 +216,17 @@ casts-good c =
 
 -- ---- pairs and triples
 
-made_as_lem : {c : Context} (r : TypeResult) (f : Fragment) (e : ExtData) (k : Costed) →
+made_as_lem : {c : Context} (r : Result «Type» TypeError) (f : Fragment) (e : ExtData) (k : Option Cost) →
     type_of c f ≡ r → e ≡ figures_of c f → WellFormed f → IfMade (Good c) (made_as r f e k)
-made_as_lem (Ok t) f e (Costed.Cost k) p q w = made_is (record { typed = p; figured = q; formed = w })
-made_as_lem (Ok t) f e Costed.Missing p q w = missing_is
-made_as_lem IllTyped f e k p q w = passed_is
+made_as_lem (Ok t) f e (Some k) p q w = made_is (record { typed = p; figured = q; formed = w })
+made_as_lem (Ok t) f e None p q w = missing_is
+made_as_lem (Err TypeError.IllTyped) f e k p q w = passed_is
 
 -- a pair of good candidates is good, if it is made, whatever the weights
 abbrev pub PairsWell : Context → Pair → Type 0
 PairsWell c f = (lw rw : Float) (x y : Candidate) → Good c x → Good c y → IfMade (Good c) (f lw rw x y)
 
-bind-ok₂ : {r s : TypeResult} {t u : «Type»} (rule : «Type» → «Type» → TypeResult) → r ≡ Ok t → s ≡ Ok u →
+bind-ok₂ : {r s : Result «Type» TypeError} {t u : «Type»} (rule : «Type» → «Type» → Result «Type» TypeError) → r ≡ Ok t → s ≡ Ok u →
     typing.◌>>=◌ r (λ t. typing.◌>>=◌ s λ u. rule t u) ≡ rule t u
 bind-ok₂ rule p q = rw (p, q)
 
@@ -260,7 +258,7 @@ module _ {c : Context} (lw rw : Float) (x y : Candidate) (g : Good c x) (h : Goo
   unfolding type_of figures_of WellFormed
   or_i-good = made_as_lem _ _ _ _ (bind-ok₂ type.or_i g.typed h.typed) (figures₂ ext.or_i g.figured h.figured) (g.formed, h.formed)
 
-bind-ok₃ : {r s u : TypeResult} {t v w : «Type»} (rule : «Type» → «Type» → «Type» → TypeResult) → r ≡ Ok t → s ≡ Ok v → u ≡ Ok w →
+bind-ok₃ : {r s u : Result «Type» TypeError} {t v w : «Type»} (rule : «Type» → «Type» → «Type» → Result «Type» TypeError) → r ≡ Ok t → s ≡ Ok v → u ≡ Ok w →
     typing.◌>>=◌ r (λ t. typing.◌>>=◌ s λ v. typing.◌>>=◌ u λ w. rule t v w) ≡ rule t v w
 bind-ok₃ rule p q r = rw (p, q, r)
 
@@ -275,12 +273,12 @@ and_or-good lw rw x y z g h i =
 
 -- ---- thresholds
 
-types-of : {c : Context} {xs : List Candidate} → All (Good c) xs → types_of c (fragments xs) ≡ some (map (λ x. x.ty) xs)
+types-of : {c : Context} {xs : List Candidate} → All (Good c) xs → types_of c (fragments xs) ≡ Some (map (λ x. x.ty) xs)
 unfolding type_of fragments
 types-of nobody = refl
 types-of (g and gs) = both _ _ g.typed (types-of gs)
   where
-    both : {t : «Type»} {ts : List «Type»} (r : TypeResult) (rs : Option (List «Type»)) → r ≡ Ok t → rs ≡ some ts → and_all r rs ≡ some (t ∷ ts)
+    both : {t : «Type»} {ts : List «Type»} (r : Result «Type» TypeError) (rs : Option (List «Type»)) → r ≡ Ok t → rs ≡ Some ts → and_all r rs ≡ Some (t ∷ ts)
     both r rs p q = rw (p, q)
 
 figures-of : {c : Context} {xs : List Candidate} → All (Good c) xs → map (λ x. x.ext) xs ≡ figures_of_all c (fragments xs)

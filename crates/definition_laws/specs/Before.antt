@@ -1,7 +1,6 @@
 -- What compile asked of costs before never was told from dear (document 02, R-2): of f64s, by their bits and by their IEEE difference. It is
 -- asked in three places and told in one; all else of compile's definition is as it was.
-use Rattle.std.specs.Prelude.{Bool, true, not, cond, ◌&&◌, List, [], ◌∷◌, ◌≡◌, ℕ, suc, leb, Float}
-use Rattle.std.proofs.Math.Option.{Option, none, some}
+use Rattle.std.specs.Prelude.{Bool, true, not, cond, ◌&&◌, List, [], ◌∷◌, ◌≡◌, ℕ, suc, leb, Float, Option, None, Some}
 use Rattle.std.specs.Float.Ieee.{lt}
 use Rattle.contexts.specs.declared.Context.{Context}
 use Rattle.words.specs.Floats.{word_of_float, is_cost}
@@ -39,12 +38,12 @@ insert_before c p x t =
 -- ---- the choice of the cheapest
 
 abbrev pub cheaper_before : Probs → Candidate → Option Candidate → Candidate
-cheaper_before p x none = x
-cheaper_before p x (some y) = cond (cost_le (float_at p x) (float_at p y)) x y
+cheaper_before p x None = x
+cheaper_before p x (Some y) = cond (cost_le (float_at p x) (float_at p y)) x y
 
 unfoldable pub cheapest_before : Probs → (Candidate → Bool) → Table → Option Candidate
-cheapest_before p suits [] = none
-cheapest_before p suits (x ∷ xs) = cond (suits x) (some (cheaper_before p x (cheapest_before p suits xs))) (cheapest_before p suits xs)
+cheapest_before p suits [] = None
+cheapest_before p suits (x ∷ xs) = cond (suits x) (Some (cheaper_before p x (cheapest_before p suits xs))) (cheapest_before p suits xs)
 
 -- ---- a Thresh's E against W
 

@@ -1,8 +1,6 @@
 -- A search by its body: of each policy what it makes where nothing is remembered, and what it may ask for again (definition, specs/Search.antt).
-use Rattle.std.specs.Prelude.{[], ◌∷◌}
+use Rattle.std.specs.Prelude.{[], ◌∷◌, Float, Option, None, Some}
 use Rattle.contexts.specs.declared.Context.{Context}
-use Rattle.costs.specs.declared.DissatProb.{DissatProb}
-use Rattle.costs.specs.declared.DissatProb.TheVariants as Prob
 use Rattle.costs.specs.Weights.{weights}
 use Rattle.policies.specs.Policy.{Policy, Unsatisfiable, Trivial, Key, Lock, Hash, And, Or, Thresh}
 use Rattle.definition.specs.Candidates.{false', true', pk_k, pk_h, lock, hash}
@@ -11,9 +9,9 @@ use Rattle.definition.specs.Refusals.{M}
 use Rattle.definition.specs.Search.{Again, alone, redo, Body, without, search, searcher, searchers, leaves, and_body, or_body, thresh_body}
 
 -- where the policy may be dissatisfied, its search without dissatisfaction
-abbrev pub again_for : Context → Policy → Probs → DissatProb → Again
-again_for c q p Prob.None = alone
-again_for c q p (Prob.Some d) = redo (search c q (without p))
+abbrev pub again_for : Context → Policy → Probs → Option Float → Again
+again_for c q p None = alone
+again_for c q p (Some d) = redo (search c q (without p))
 
 abbrev pub again_in : Context → Policy → Probs → Again
 again_in c q p = again_for c q p p.dissat

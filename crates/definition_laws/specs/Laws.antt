@@ -1,10 +1,8 @@
 -- What the laws of compile speak of: well-typed candidates with the figures of their trees, sorted tables, how the state grows, and the tree check
 -- of what is written. The rules of figures are asked in the order of document 01, "Records".
-use Rattle.std.specs.Prelude.{Bool, true, List, [], ◌∷◌, ◌≡◌, ℕ, ◌+◌, ◌≤◌, length}
-use Rattle.std.proofs.Math.Option.{Option, none, some}
+use Rattle.std.specs.Prelude.{Bool, true, List, [], ◌∷◌, ◌≡◌, ℕ, ◌+◌, ◌≤◌, length, Option, None, Some, Ok}
 use Rattle.contexts.specs.declared.Context.{Context}
 use Rattle.types.specs.declared.«Type».{«Type»}
-use Rattle.types.specs.declared.TypeResult.TheVariants.{Ok}
 use Rattle.correctness.specs.declared.Base.TheVariants.{B}
 use Rattle.figures.specs.declared.ExtData.{ExtData}
 use Rattle.figures.specs.Rules as ext
@@ -75,8 +73,8 @@ pub data All {A : Type 0} (P : A → Type 0) : List A → Type 0 where
   ◌and◌ : {x : A} {xs : List A} → P x → All P xs → All P (x ∷ xs)
 
 pub data IfSome {A : Type 0} (P : A → Type 0) : Option A → Type 0 where
-  none_is : IfSome P none
-  some_is : {x : A} → P x → IfSome P (some x)
+  none_is : IfSome P None
+  some_is : {x : A} → P x → IfSome P (Some x)
 
 pub data IfMade (P : Candidate → Type 0) : Made → Type 0 where
   passed_is : IfMade P passed_over

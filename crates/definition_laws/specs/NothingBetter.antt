@@ -15,9 +15,9 @@ offers c p (x ∷ xs) t = insert c p x t >>= λ o. offers c p xs o.table
 
 -- ---- of one in a list, of any two in a list
 
-pub data Some {A : Type 0} (P : A → Type 0) : List A → Type 0 where
-  here : {x : A} {xs : List A} → P x → Some P (x ∷ xs)
-  later : {x : A} {xs : List A} → Some P xs → Some P (x ∷ xs)
+pub data SomeOf {A : Type 0} (P : A → Type 0) : List A → Type 0 where
+  here : {x : A} {xs : List A} → P x → SomeOf P (x ∷ xs)
+  later : {x : A} {xs : List A} → SomeOf P xs → SomeOf P (x ∷ xs)
 
 -- in either order
 pub data AnyTwo {A : Type 0} (R : A → A → Type 0) : List A → Type 0 where
@@ -36,7 +36,7 @@ pub record NothingBetter (c : Context) (p : Probs) (offered : List Candidate) (t
   pub none_beaten : AnyTwo (λ x y. beats p x y ≡ false) t
   pub comparable : All (λ x. is_price (cost_at p x) ≡ true) t
   -- for every offer that was not malleable, locally invalid or too tall some entry is a subtype of it at the same or a lower cost
-  pub all_met : All (λ x. worthwhile c x ≡ true → Some (λ e. beats p e x ≡ true) t) offered
+  pub all_met : All (λ x. worthwhile c x ≡ true → SomeOf (λ e. beats p e x ≡ true) t) offered
   -- at most one entry has a key
   pub one_of_a_key : AnyTwo (λ x y. SameKey x y → ⊥) t
 

@@ -1,36 +1,41 @@
 -- The entry's promise: what the checks refuse is refused, and of two trees that pass the differences are told if they fit. Assumes nothing.
 use Prim.Native.Nat.{ℕ, ◌-◌, ◌*◌, ◌≤◌, ◌<◌}
+use mathlib.Core.Bool.{Bool, true, false}
 use mathlib.Core.List.{List, [], ◌++◌}
-use mathlib.Core.Option.{Option, none, some}
+use Rattle.std.specs.Prelude.{Option, None, Some, Result, Ok, Err}
 use mathlib.Core.Path.{◌≡◌, refl, sym, ap, subst, ◌∙◌}
 use native.Mathlib.Omega.{arith}
-use borrow.Author.Tests.{le-leb, lt-leb, eq-eqb, ne_eqb}
+use borrow.Author.Tests.{le-leb, lt-leb, eq-eqb, ne_eqb, eqb-false}
+use lib.Dec.{eqb}
 use lib.ListN.{length, replicate}
 use Rattle.words.specs.Memory.{zeroed}
+use Rattle.refusals.specs.declared.Refusal.{Refusal}
+use Rattle.refusals.specs.Numbers.{number_of}
 use Rattle.contexts.specs.declared.Context.{Context}
+use Rattle.contexts.specs.declared.Context.TheVariants.{Segwitv0, Tap}
+use Rattle.types.specs.declared.«Type».{«Type»}
 use Rattle.trees.specs.Fragment.{Fragment}
 use Rattle.trees.specs.Reading.{Answer, refused, done, max_records}
-use Rattle.trees.specs.TreeCheck.{Typed, bad_context, context_of, check_of}
-use Rattle.claspwillow.specs.Promises.{CheckPromise}
-use Rattle.claspwillow.proofs.CheckLaws.{passed, refused_as}
+use Rattle.trees.specs.TreeCheck.{Typed, bad_context, bad_work, context_of, check_of}
+use Rattle.trees.specs.Checked.{type_only}
+use Rattle.claspwillow.proofs.CheckLaws.{passed-as, refused-by}
 use Rattle.walk.specs.TreeRecords.{TreeRecords, Written}
 use Rattle.walk.proofs.Laws.{rows}
-use Rattle.differ.specs.declared.Given.{Given}
 use Rattle.differ.specs.Numbered.{Numbered, numbered}
 use Rattle.differ.specs.Differences.{Difference, differences}
 use Rattle.differ.specs.Differ.{work_words, output_too_small, fitting, check_both, differ_of, DifferPromise}
 use Rattle.differ.specs.Records.{numbered_at}
 use Rattle.differ.specs.Telling.{tell_all, Tells, Gives}
-use Rattle.differ.specs.Checks.{BothPass, BothChecked, wrong_length}
+use Rattle.differ.specs.Checks.{BothPass}
 use Rattle.differ.proofs.Numbering.{numbered_is}
 use Rattle.differ.proofs.Telling.{no_output, all_told}
 
-pub gives_as : {a b : Answer (List Difference)} {out told : List ℕ} {r : Given} → a ≡ b → Gives b out told r → Gives a out told r
+pub gives_as : {a b : Answer (List Difference)} {out told : List ℕ} {r : Result ℕ Refusal} → a ≡ b → Gives b out told r → Gives a out told r
 gives_as {a} {b} {out} {told} {r} e g = subst (λ (x : Answer (List Difference)). Gives x out told r) (sym e) g
 
 -- a refusal leaves the output as it was
-pub refuses : (n : ℕ) {out told : List ℕ} → told ≡ out → Gives (refused n) out told (record { number = n; count = 0 })
-refuses n e = record { number = refl; writes = e; counts = refl }
+pub refuses : {r : Refusal} {out told : List ℕ} → told ≡ out → Gives (refused (number_of r)) out told (Err r)
+refuses e = record { number = refl; writes = e; counts = refl }
 
 -- ---- the run that counts and the run that writes
 
@@ -41,14 +46,14 @@ module _ (ds : List Difference) (out : List ℕ) {part : List ℕ} {n : ℕ} (me
   counted-all : n ≡ length ds
   counted-all = omega (arith, measured.ends)
 
-  pub too_many : length (part ++ out) < 8 * n → Gives (fitting (length out) ds) out (part ++ out) (record { number = 13; count = 0 })
+  pub too_many : length (part ++ out) < 8 * n → Gives (fitting (length out) ds) out (part ++ out) (Err Refusal.OutputTooSmall)
   too_many h =
       let long : length out < 8 * length ds = omega (arith, h, ap length as_it_was, counted-all) in
       let no : fitting (length out) ds ≡ refused output_too_small = rw (lt-leb (8 * length ds) (length out) long) in
-      gives_as no (refuses output_too_small as_it_was)
+      gives_as no (refuses as_it_was)
 
   pub fits : 8 * n ≤ length (part ++ out) → {told : List ℕ} {end : ℕ} → Tells (part ++ out) told 0 ds end
-      → Gives (fitting (length out) ds) out told (record { number = 0; count = n })
+      → Gives (fitting (length out) ds) out told (Ok n)
   fits h {told} t =
       let short : 8 * length ds ≤ length out = omega (arith, h, ap length as_it_was, counted-all) in
       let yes-is : fitting (length out) ds ≡ done ds = rw (le-leb (8 * length ds) (length out) short) in
@@ -69,28 +74,28 @@ of-roots {left} {right} r s {n} {m} e d =
 
 -- ---- the checks
 
-module _ {context : ℕ} {tree work : List ℕ} {number ty : ℕ} {after : List ℕ} (promise : CheckPromise context tree work number ty after)
-    (room : length work ≡ max_records) where
-  pub tree-passes : number ≡ 0 → (x : Typed) × (check_of context tree max_records ≡ done x)
-  tree-passes z =
-      let p = passed context tree work promise.gives z in
+module _ (context : ℕ) (tree work : List ℕ) (room : length work ≡ max_records) where
+  pub tree-passes : {t : «Type»} → done t ≡ type_only (check_of context tree (length work)) → (x : Typed) × (check_of context tree max_records ≡ done x)
+  tree-passes e =
+      let p = passed-as context tree work e in
       (p.typed, sym (ap (check_of context tree) room) ∙ p.passes)
 
-  pub tree-refused : (number ≡ 0 → ⊥) → check_of context tree max_records ≡ refused number
-  tree-refused z = sym (ap (check_of context tree) room) ∙ refused_as context tree work promise.gives z
+  pub tree-refused : (r : Refusal) → refused (number_of r) ≡ type_only (check_of context tree (length work))
+      → check_of context tree max_records ≡ refused (number_of r)
+  tree-refused r e = sym (ap (check_of context tree) room) ∙ refused-by context tree work e
 
-module _ {context : ℕ} {left right : List ℕ} where
-  pub first-refused : {n : ℕ} → (n ≡ 0 → ⊥) → check_of context left max_records ≡ refused n → BothChecked context left right n
-  first-refused z e = record { passes = λ s. absurd (z s); refuses = λ s. rw e }
+module _ (context : ℕ) (left right : List ℕ) where
+  pub first-refused : (r : Refusal) → check_of context left max_records ≡ refused (number_of r) → check_both context left right ≡ refused (number_of r)
+  first-refused r e = rw e
 
-  pub second-told : {x : Typed} {n : ℕ} → check_of context left max_records ≡ done x
-      → (n ≡ 0 → (y : Typed) × (check_of context right max_records ≡ done y)) → ((n ≡ 0 → ⊥) → check_of context right max_records ≡ refused n)
-      → BothChecked context left right n
-  second-told {x} e p q =
-      record {
-        passes = λ s. let y = p s in record { first = x; second = y.0; left_is = e; right_is = y.1 };
-        refuses = λ s. rw e (q s);
-      }
+  module _ (x : (x : Typed) × (check_of context left max_records ≡ done x)) where
+    pub second-refused : (r : Refusal) → check_of context right max_records ≡ refused (number_of r) → check_both context left right ≡ refused (number_of r)
+    second-refused r e =
+        let first = x.1 in
+        rw (first, e)
+
+    pub both-pass : (y : Typed) × (check_of context right max_records ≡ done y) → BothPass context left right
+    both-pass y = record { first = x.0; second = y.0; left_is = x.1; right_is = y.1 }
 
   module _ (p : BothPass context left right) where
     pub written-left : Written left
@@ -101,9 +106,22 @@ module _ {context : ℕ} {left right : List ℕ} where
 
 -- ---- what the entry comes to
 
+-- a number below 2 has a context
+some-context : (context : ℕ) → context < 2 → context_of context ≡ None → ⊥
+some-context context l = by-test (eqb context 0) (eqb context 1) refl refl
+  where
+    by-test : (a b : Bool) → eqb context 0 ≡ a → eqb context 1 ≡ b → context_of context ≡ None → ⊥
+    by-test true b p q e =
+        let some_is : context_of context ≡ Some Segwitv0 = rw p in
+        let z : ◌≡◌ {A = ℕ} 0 1 = cc in omega arith
+    by-test false true p q e =
+        let some_is : context_of context ≡ Some Tap = rw (p, q) in
+        let z : ◌≡◌ {A = ℕ} 0 1 = cc in omega arith
+    by-test false false p q e = omega (arith, eqb-false context 0 p, eqb-false context 1 q)
+
 module _ (context : ℕ) (left right out work : List ℕ) where
   -- no context, no check
-  no-context : (tree : List ℕ) → context_of context ≡ none → check_of context tree max_records ≡ refused bad_context
+  no-context : (tree : List ℕ) → context_of context ≡ None → check_of context tree max_records ≡ refused bad_context
   unfolding check_of
   no-context tree e = rw e
 
@@ -113,8 +131,8 @@ module _ (context : ℕ) (left right out work : List ℕ) where
     differ-refused {n} e = by-context (context_of context) refl
       where
         by-context : (o : Option Context) → context_of context ≡ o → differ_of context left right out work ≡ refused n
-        by-context (some c) k = rw (k, eq-eqb (length work) work_words room, e)
-        by-context none k =
+        by-context (Some c) k = rw (k, eq-eqb (length work) work_words room, e)
+        by-context None k =
             let first : check_both context left right ≡ refused bad_context = rw (no-context left k) in
             let same : ◌≡◌ {A = Answer Typed} (refused bad_context) (refused n) = sym first ∙ e in
             let number : bad_context ≡ n = cc (same) in
@@ -127,28 +145,33 @@ module _ (context : ℕ) (left right out work : List ℕ) where
       where
         by-context : (o : Option Context) → context_of context ≡ o
             → differ_of context left right out work ≡ fitting (length out) (differences (numbered left) (numbered right))
-        by-context (some c) k = rw (k, eq-eqb (length work) work_words room, p.left_is, p.right_is)
-        by-context none k =
+        by-context (Some c) k = rw (k, eq-eqb (length work) work_words room, p.left_is, p.right_is)
+        by-context None k =
             let same : ◌≡◌ {A = Answer Typed} (refused bad_context) (done p.first) = sym (no-context left k) ∙ p.left_is in
             absurd (let z : ◌≡◌ {A = ℕ} 0 1 = cc (same) in omega arith)
 
-  wrong-refused : (length work ≡ work_words → ⊥) → differ_of context left right out work ≡ refused (wrong_length context)
+  pub no-such-context : 2 ≤ context → differ_of context left right out work ≡ refused bad_context
   unfolding differ_of
-  wrong-refused h = by-context (context_of context) refl
+  no-such-context l =
+      let none_is : context_of context ≡ None = rw (ne_eqb context 0 (λ e. omega arith), ne_eqb context 1 (λ e. omega arith)) in
+      rw none_is
+
+  pub other-length : context < 2 → (length work ≡ work_words → ⊥) → differ_of context left right out work ≡ refused bad_work
+  unfolding differ_of
+  other-length l h = by-context (context_of context) refl
     where
-      by-context : (o : Option Context) → context_of context ≡ o → differ_of context left right out work ≡ refused (wrong_length context)
-      by-context (some c) k = rw (k, ne_eqb (length work) work_words h)
-      by-context none k = rw k
+      by-context : (o : Option Context) → context_of context ≡ o → differ_of context left right out work ≡ refused bad_work
+      by-context (Some c) k = rw (k, ne_eqb (length work) work_words h)
+      by-context None k = absurd (some-context context l k)
 
   cleared : (worked : List ℕ) {after : List ℕ} → length worked ≡ length work → after ≡ zeroed worked → after ≡ zeroed work
   cleared worked e c = c ∙ ap (λ (n : ℕ). replicate n 0) e
 
-  pub of_length : (worked : List ℕ) {told after : List ℕ} {r : Given} → Gives (differ_of context left right out work) out told r
-      → length worked ≡ length work → after ≡ zeroed worked → DifferPromise context left right out work r.number told r.count after
-  of_length worked g e c = record { gives = g.number; writes = g.writes; counts = g.counts; clears = cleared worked e c }
+  module _ (worked : List ℕ) {told after : List ℕ} (same : length worked ≡ length work) (c : after ≡ zeroed worked) where
+    pub done-promised : {n : ℕ} → Gives (differ_of context left right out work) out told (Ok n)
+        → DifferPromise context left right out work 0 told n after
+    done-promised g = record { gives = g.number; writes = g.writes; counts = g.counts; clears = cleared worked same c }
 
-  pub of-other-length : {n : ℕ} {after : List ℕ} → (length work ≡ work_words → ⊥) → n ≡ wrong_length context → after ≡ zeroed work
-      → DifferPromise context left right out work n out 0 after
-  of-other-length h e c =
-      let no = wrong-refused h in
-      record { gives = rw no e; writes = rw no; counts = rw no; clears = c }
+    pub refused-promised : {r : Refusal} {number : ℕ} → number ≡ number_of r → Gives (differ_of context left right out work) out told (Err r)
+        → DifferPromise context left right out work number told 0 after
+    refused-promised n g = record { gives = n ∙ g.number; writes = g.writes; counts = g.counts; clears = cleared worked same c }

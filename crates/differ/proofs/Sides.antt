@@ -48,44 +48,43 @@ keys-long (i ∷ is) (j ∷ js) h = rw (keys-long is js (λ e. h (ap suc e))) (a
     and-false true = refl
     and-false false = refl
 
--- those before are the same, and the others are still to compare
-abbrev pub KeysToCome : (x y : List ℕ) → (count j : ℕ) → (same : Bool) → Type 0
-KeysToCome x y count j same = same && same_keys (keys_from x count j) (keys_from y count j) ≡ same_keys (first_keys x count) (first_keys y count)
-
-and_assoc : (a b c : Bool) → (a && b) && c ≡ a && (b && c)
-and_assoc true b c = refl
-and_assoc false b c = refl
-
 and-true : (a : Bool) → a && true ≡ a
 and-true true = refl
 and-true false = refl
 
+-- those before are the same, and the others are still to compare
+abbrev pub KeysToCome : (x y : List ℕ) → (count j : ℕ) → Type 0
+KeysToCome x y count j = same_keys (keys_from x count j) (keys_from y count j) ≡ same_keys (first_keys x count) (first_keys y count)
+
 module _ (x y : List ℕ) (count : ℕ) where
-  pub keys-begin : KeysToCome x y count 0 true
+  pub keys-begin : KeysToCome x y count 0
   keys-begin =
       ap (λ (ks : List ℕ). same_keys ks (keys_from y count 0)) (keys-first x count)
       ∙ ap (same_keys (first_keys x count)) (keys-first y count)
 
-  pub keys-more : (j i k : ℕ) (same : Bool) {next : Bool} → j < count → i ≡ key_at x j → k ≡ key_at y j → next ≡ same && eqb i k
-      → KeysToCome x y count j same → KeysToCome x y count (j + 1) next
-  unfolding same_keys
-  keys-more j i k same h e f n so_far =
-      let others = same_keys (keys_from x count (j + 1)) (keys_from y count (j + 1)) in
-      let same-ik : eqb i k ≡ eqb (key_at x j) (key_at y j) = rw (e, f) in
-      ap (λ (b : Bool). b && others) (n ∙ ap (λ (b : Bool). same && b) same-ik)
-      ∙ and_assoc same (eqb (key_at x j) (key_at y j)) others
-      ∙ ap (λ (b : Bool). same && b)
-      (sym (ap (λ (ks : List ℕ). same_keys ks (keys_from y count j)) (keys-next x count j h)
-      ∙ ap (same_keys (key_at x j ∷ keys_from x count (j + 1))) (keys-next y count j h)))
-      ∙ so_far
+  module _ (j : ℕ) {i k : ℕ} (h : j < count) (e : i ≡ key_at x j) (f : k ≡ key_at y j) (so_far : KeysToCome x y count j) where
+    abbrev others : Bool
+    others = same_keys (keys_from x count (j + 1)) (keys_from y count (j + 1))
 
-  pub keys-done : (j : ℕ) (same : Bool) → count ≤ j → KeysToCome x y count j same → same ≡ same_keys (first_keys x count) (first_keys y count)
+    next : eqb i k && others ≡ same_keys (first_keys x count) (first_keys y count)
+    unfolding same_keys
+    next =
+        let same-ik : eqb i k ≡ eqb (key_at x j) (key_at y j) = rw (e, f) in
+        ap (λ (b : Bool). b && others) same-ik
+        ∙ sym (ap (λ (ks : List ℕ). same_keys ks (keys_from y count j)) (keys-next x count j h)
+        ∙ ap (same_keys (key_at x j ∷ keys_from x count (j + 1))) (keys-next y count j h))
+        ∙ so_far
+
+    pub keys-more : i ≡ k → KeysToCome x y count (j + 1)
+    keys-more s = ap (λ (b : Bool). b && others) (sym (eq-eqb i k s)) ∙ next
+
+    pub keys-apart : (i ≡ k → ⊥) → false ≡ same_keys (first_keys x count) (first_keys y count)
+    keys-apart n = ap (λ (b : Bool). b && others) (sym (ne_eqb i k n)) ∙ next
+
+  pub keys-done : (j : ℕ) → count ≤ j → KeysToCome x y count j → true ≡ same_keys (first_keys x count) (first_keys y count)
   unfolding same_keys
-  keys-done j same h so_far =
-      sym (and-true same)
-      ∙ ap (λ (b : Bool). same && b)
-      (sym (ap (λ (ks : List ℕ). same_keys ks (keys_from y count j)) (keys-end x count j h) ∙ ap (same_keys []) (keys-end y count j h)))
-      ∙ so_far
+  keys-done j h so_far =
+      sym (ap (λ (ks : List ℕ). same_keys ks (keys_from y count j)) (keys-end x count j h) ∙ ap (same_keys []) (keys-end y count j h)) ∙ so_far
 
 -- ---- a record's count is that of its children or of its keys
 

@@ -1,7 +1,6 @@
 -- What the entry gives: document 02, R-10. A context or work memory that is none of its own, then the left tree and then the right one are
 -- refused as the tree check does; then too little room is 13.
-use Rattle.std.specs.Prelude.{ℕ, ◌*◌, cond, List, [], ◌∷◌, ◌++◌, ◌≡◌, eqb, leb, length, drop}
-use Rattle.std.proofs.Math.Option.{Option, none, some}
+use Rattle.std.specs.Prelude.{ℕ, ◌*◌, cond, List, [], ◌∷◌, ◌++◌, ◌≡◌, eqb, leb, length, drop, Option, None, Some}
 use Rattle.words.specs.Bytes.{bytes_of}
 use Rattle.words.specs.Memory.{zeroed}
 use Rattle.trees.specs.Reading.{Answer, refused, done, ◌>>=◌, or_refuse, max_records}
@@ -18,7 +17,7 @@ abbrev pub work_words : ℕ
 work_words = 8192
 
 abbrev pub work_of : ℕ → Option ℕ
-work_of words = cond (eqb words work_words) (some words) none
+work_of words = cond (eqb words work_words) (Some words) None
 
 -- a difference in bytes, two u32, and all of them
 abbrev pub difference_bytes : Difference → List ℕ

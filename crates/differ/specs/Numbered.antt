@@ -1,7 +1,6 @@
 -- Fragment trees with their record numbers: document 01, "Records" (the first record is number 0, children are smaller numbers, the last
 -- record is the root).
-use Rattle.std.specs.Prelude.{ℕ, zero, suc, ◌-◌, List, [], ◌∷◌, ◌++◌, ◌≡◌, length, get_or, take, drop}
-use Rattle.std.proofs.Math.Option.{Option, none, some}
+use Rattle.std.specs.Prelude.{ℕ, zero, suc, ◌-◌, List, [], ◌∷◌, ◌++◌, ◌≡◌, length, get_or, take, drop, Option, None, Some}
 use Rattle.records.specs.Numbers.{or_zero}
 use Rattle.records.specs.Payloads.{Payload, children_of}
 use Rattle.records.specs.RecordForm.{record_length, fragment_payload}
@@ -26,8 +25,8 @@ abbrev pub nobody : Numbered
 nobody = node 0 (plain 0) end
 
 abbrev pub children_if : Option Payload → List ℕ
-children_if (some p) = children_of p
-children_if none = []
+children_if (Some p) = children_of p
+children_if None = []
 
 -- the records with some numbers, of those read so far
 unfoldable pub those : List Numbered → List ℕ → NumberedList

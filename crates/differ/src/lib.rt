@@ -5,7 +5,7 @@
 // records side by side) and specs/Telling.antt (differences in an output).
 #![tactic(auto)]
 
-ghost use Rattle.std.specs.Prelude.{◌≡◌, ◌&&◌, [], ◌∷◌, ◌<◌, ◌≤◌, length};
+ghost use Rattle.std.specs.Prelude.{◌≡◌, [], ◌∷◌, ◌<◌, length};
 ghost use Rattle.records.specs.Payloads.{first_keys};
 ghost use Rattle.trees.specs.Fragment.{Fragment};
 ghost use Rattle.trees.specs.Reading.{max_records};
@@ -16,47 +16,27 @@ ghost use Rattle.differ.specs.Differences.{same_keys, differences};
 ghost use Rattle.differ.specs.Differ.{work_words, fitting, differ_of, DifferPromise};
 ghost use Rattle.differ.specs.Records.{numbered_at, same_record, Walks};
 ghost use Rattle.differ.specs.Telling.{Tells, Gives};
-ghost use Rattle.differ.specs.Checks.{wrong_length, BothChecked};
+ghost use Rattle.differ.specs.Checks.{BothChecked};
 
-// Document 01's numbers of the refusals that are given here.
-const BAD_CONTEXT: u32 = 1;
-
-const BAD_WORK: u32 = 2;
-
-const OUTPUT_TOO_SMALL: u32 = 13;
+use refusals::Refusal;
 
 // The most records of a tree; work memory has a word for each record of the left tree, then one for each of the right.
 const HALF: usize = 4096;
 
 const WORK_WORDS: usize = 8192;
 
-// The number of an outcome and how many differences it told.
-#[derive(Clone, Copy)]
-pub struct Given {
-    pub number: u32,
-    pub count: u64,
-}
-
-// Both of two.
-fn both(a: bool, b: bool) -> bool
-    ensures { result ≡ a && b }
-{
-    a && b
-}
-
 // Whether the first `count` keys of two records are the same.
 fn same_keys(left: &[u8], right: &[u8], count: u16) -> bool
     ensures { result ≡ same_keys (first_keys left.now count) (first_keys right.now count) }
 {
-    let mut same = true;
-    let mut j = 0;
-    while j < count {
+    for j in 0..count {
         let x = records::key_at(left, j);
         let y = records::key_at(right, j);
-        same = both(same, x == y);
-        j += 1;
+        if x != y {
+            return false;
+        }
     }
-    same
+    true
 }
 
 // Whether two records differ in nothing but the numbers of their children.
@@ -141,12 +121,10 @@ fn differ_at(
         let ys = y.children;
         let n = x.n;
         let mut to = at;
-        let mut c = 0;
-        while c < n {
+        for c in 0..n {
             let a = xs[c] as usize;
             let b = ys[c] as usize;
             to = differ_at(left, right, left_starts, right_starts, a, b, out, to);
-            c += 1;
         }
         return to;
     }
@@ -162,7 +140,7 @@ fn differ_roots(
     i: usize,
     j: usize,
     out: &mut [u8],
-) -> Given
+) -> Result<usize, Refusal>
     requires { Walks left.now right.now left_starts.now right_starts.now i j 0 }
     ensures { Gives (fitting (length out.old)
         (differences (numbered_at left.now i) (numbered_at right.now j))) out.old out.new result }
@@ -177,21 +155,15 @@ fn differ_roots(
         &mut out[0..0],
         0,
     );
-    if 8 * count <= out.len() {
-        differ_at(left, right, left_starts, right_starts, i, j, out, 0);
-        return Given {
-            number: 0,
-            count: count as u64,
-        };
+    if out.len() < 8 * count {
+        return Err(Refusal::OutputTooSmall);
     }
-    Given {
-        number: OUTPUT_TOO_SMALL,
-        count: 0,
-    }
+    differ_at(left, right, left_starts, right_starts, i, j, out, 0);
+    Ok(count)
 }
 
 // Tells the differences between two trees that the check passed.
-fn differ_in(left: &[u8], right: &[u8], out: &mut [u8], work: &mut [u64]) -> Given
+fn differ_in(left: &[u8], right: &[u8], out: &mut [u8], work: &mut [u64]) -> Result<usize, Refusal>
     requires { Written left.now × Written right.now × (length work.old ≡ work_words) }
     ensures gives { Gives (fitting (length out.old) (differences (numbered left.now) (numbered right.now)))
         out.old out.new result }
@@ -210,49 +182,37 @@ fn differ_in(left: &[u8], right: &[u8], out: &mut [u8], work: &mut [u64]) -> Giv
     )
 }
 
-// The check of two trees, one after the other: the number of the first that is refused, 0 where both pass.
-fn check_both(context: u32, left: &[u8], right: &[u8], work: &mut [u64]) -> u32
+// The check of two trees, one after the other: the first that does not pass is refused.
+fn check_both(context: u32, left: &[u8], right: &[u8], work: &mut [u64]) -> Result<(), Refusal>
     requires { length work.old ≡ max_records }
     ensures both_checked { BothChecked context left.now right.now result }
     ensures work_len_unchanged { length work.new ≡ length work.old }
 {
-    let mut ty = 0;
-    let number = claspwillow::claspwillow_check(context, left, work, &mut ty);
-    if number == 0 {
-        return claspwillow::claspwillow_check(context, right, work, &mut ty);
-    }
-    number
+    trees::check(context, left, work)?;
+    trees::check(context, right, work)?;
+    Ok(())
 }
 
-// The number where work memory has another length.
-fn wrong_length(context: u32) -> u32
-    ensures { result ≡ wrong_length context }
-{
-    match context {
-        0 => BAD_WORK,
-        1 => BAD_WORK,
-        _ => BAD_CONTEXT,
-    }
-}
-
-// The differences between two trees where work memory has its one length.
-fn differ_checked(
+// Tells what changed between two trees, and how many differences there are.
+fn differ(
     context: u32,
     left: &[u8],
     right: &[u8],
     out: &mut [u8],
     work: &mut [u64],
-) -> Given
-    requires { length work.old ≡ work_words }
+) -> Result<usize, Refusal>
     ensures gives { Gives (differ_of context left.now right.now out.old work.old)
         out.old out.new result }
     ensures work_len_unchanged { length work.new ≡ length work.old }
 {
-    let number = check_both(context, left, right, &mut work[0..HALF]);
-    if number == 0 {
-        return differ_in(left, right, out, work);
+    if 2 <= context {
+        return Err(Refusal::BadContext);
     }
-    Given { number, count: 0 }
+    if work.len() != WORK_WORDS {
+        return Err(Refusal::BadWork);
+    }
+    check_both(context, left, right, &mut work[0..HALF])?;
+    differ_in(left, right, out, work)
 }
 
 // What changed between two trees: the number of document 02, the differences in `out`, eight bytes each, and in `differences` how many there
@@ -268,15 +228,18 @@ pub fn claspwillow_differ(
     ensures { DifferPromise context left.now right.now out.old work.old result
         out.new differences.new work.new }
 {
-    if work.len() == WORK_WORDS {
-        let r = differ_checked(context, left, right, out, work);
-        words::clear(work);
-        *differences = r.count;
-        return r.number;
-    }
+    let r = differ(context, left, right, out, work);
     words::clear(work);
-    *differences = 0;
-    wrong_length(context)
+    match r {
+        Ok(count) => {
+            *differences = count as u64;
+            0
+        }
+        Err(e) => {
+            *differences = 0;
+            e.number()
+        }
+    }
 }
 
 // The one length of work memory that the entry takes, in words.

@@ -2,7 +2,7 @@
 use Prim.Native.Nat.{ℕ, ◌*◌, ◌≤◌}
 use mathlib.Core.Bool.{Bool, true, false, cond}
 use mathlib.Core.List.{List}
-use mathlib.Core.Option.{Option, none, some}
+use Rattle.std.specs.Prelude.{Option, None, Some}
 use mathlib.Core.Path.{◌≡◌, refl, sym, ap, ◌∙◌}
 use native.Mathlib.Omega.{arith}
 use lib.Dec.{leb}
@@ -16,9 +16,8 @@ use Rattle.differ.specs.Numbered.{numbered}
 use Rattle.differ.specs.Differences.{Difference, differences}
 use Rattle.differ.specs.Differ.{output_too_small, work_of, fitting, check_both, differ_of, differences_bytes, output_after, counted, DifferPromise}
 use Rattle.differ.proofs.Telling.{length-differences}
-use Rattle.claspwillow.proofs.CheckLaws.{same-room}
+use Rattle.claspwillow.proofs.CheckLaws.{passed, refused_as, same-room}
 use Rattle.differ.proofs.Halves.{first-long}
-use Rattle.differ.proofs.Promised.{tree-passes, tree-refused}
 use Rattle.differ_command.specs.Sides.{Refuses}
 
 same-refusal : {m n : ℕ} → m ≡ n → ◌≡◌ {A = Answer Typed} (refused m) (refused n)
@@ -36,10 +35,10 @@ steps c words both told = do
 
 by-steps : (c : Option Context) (words : Option ℕ) (both : Answer Typed) (told : Answer (List Difference)) → number_of told ≤ output_too_small
     → bad_tree ≤ number_of (steps c words both told) → both ≡ refused (number_of (steps c words both told))
-by-steps none words both told few from = absurd (omega (arith, from))
-by-steps (some c) none both told few from = absurd (omega (arith, from))
-by-steps (some c) (some n) (refused m) told few from = refl
-by-steps (some c) (some n) (done x) told few from = absurd (omega (arith, few, from))
+by-steps None words both told few from = absurd (omega (arith, from))
+by-steps (Some c) None both told few from = absurd (omega (arith, from))
+by-steps (Some c) (Some n) (refused m) told few from = refl
+by-steps (Some c) (Some n) (done x) told few from = absurd (omega (arith, few, from))
 
 fits-or-13 : (fits : Bool) (ds : List Difference) → number_of {A = List Difference} (cond fits (done ds) (refused output_too_small)) ≤ output_too_small
 fits-or-13 true ds = omega arith
@@ -47,10 +46,10 @@ fits-or-13 false ds = omega arith
 
 few-steps : (c : Option Context) (words : Option ℕ) (both : Answer Typed) (told : Answer (List Difference)) (room : ℕ) → 8 * counted told ≤ room
     → 8 * counted (steps c words both told) ≤ room
-few-steps none words both told room few = omega arith
-few-steps (some c) none both told room few = omega arith
-few-steps (some c) (some n) (refused m) told room few = omega arith
-few-steps (some c) (some n) (done x) told room few = few
+few-steps None words both told room few = omega arith
+few-steps (Some c) None both told room few = omega arith
+few-steps (Some c) (Some n) (refused m) told room few = omega arith
+few-steps (Some c) (Some n) (done x) told room few = few
 
 fits-few : (fits : Bool) (ds : List Difference) (room : ℕ) → leb (8 * length ds) room ≡ fits
     → 8 * counted (cond fits (done ds) (refused output_too_small)) ≤ room
@@ -98,14 +97,16 @@ module _ {context : ℕ} {left : List ℕ} (right : List ℕ) {work : List ℕ} 
   -- the left tree passes: the right one is refused
   pub right-refused : own ≡ 0 → ((x : Typed) × (check_of context left max_records ≡ done x)) × (check_of context right max_records ≡ refused number)
   right-refused z =
-      let passes = tree-passes promise room z in
+      let p = passed context left work promise.gives z in
+      let passes : (x : Typed) × (check_of context left max_records ≡ done x) = (p.typed, sym (ap (check_of context left) room) ∙ p.passes) in
       let first : check_both context left right ≡ check_of context right max_records = rw passes.1 in
       (passes, sym first ∙ refuses from)
 
   -- the left tree does not pass: it is refused with that number
   pub left-refused : (own ≡ 0 → ⊥) → check_of context left max_records ≡ refused number
   left-refused z =
-      let alone = tree-refused promise room z in
+      let alone : check_of context left max_records ≡ refused own =
+      sym (ap (check_of context left) room) ∙ refused_as context left work promise.gives z in
       let first : check_both context left right ≡ refused own = rw alone in
       let same : ◌≡◌ {A = Answer Typed} (refused own) (refused number) = sym first ∙ refuses from in
       alone ∙ same

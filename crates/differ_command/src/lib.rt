@@ -8,7 +8,6 @@ ghost use Rattle.trees.specs.Reading.{max_records};
 ghost use Rattle.differ_command.specs.Sides.{Refuses, Accuses};
 
 use command_line::{INPUT_WORD, RIGHT_WORD};
-use files::Loaded;
 use record_files::{ROOM, load_records};
 use report::Side;
 use std::rt::{Env, Files};
@@ -24,19 +23,19 @@ const WORK_WORDS: usize = 8_192;
 
 const CHECK_WORDS: usize = 4_096;
 
-// The tree that a refusal of the differences is about: the left one unless that one passes the check.
-fn side_of(context: u32, left: &[u8], right: &[u8], number: u32, work: &mut [u64]) -> Side
+// The tree that a refusal of the differences is about, if it is about one: the left one unless that one passes the check.
+fn side_of(context: u32, left: &[u8], right: &[u8], number: u32, work: &mut [u64]) -> Option<Side>
     requires { (length work.old ≡ max_records) × Refuses context left.now right.now number }
     ensures { Accuses context left.now right.now number result }
 {
     if number < BAD_TREE {
-        return Side::Neither;
+        return None;
     }
     let mut ty = 0;
     if claspwillow::claspwillow_check(context, left, work, &mut ty) == 0 {
-        return Side::Right;
+        return Some(Side::Right);
     }
-    Side::Left
+    Some(Side::Left)
 }
 
 // Shows what differs between two trees, or why one is refused.
@@ -56,11 +55,11 @@ fn differ_of<R: Print + Eprint>(rt: &R, context: u32, left: &[u8], right: &[u8])
 // Shows what differs between the two trees that the words name.
 pub fn differ_trees<R: Env + Files + Input + Print + Eprint>(rt: &R, context: u32) {
     let mut left = [0u8; ROOM];
-    let Loaded::Bytes(l) = load_records(rt, INPUT_WORD, &mut left) else {
+    let Some(l) = load_records(rt, INPUT_WORD, &mut left) else {
         return;
     };
     let mut right = [0u8; ROOM];
-    let Loaded::Bytes(r) = load_records(rt, RIGHT_WORD, &mut right) else {
+    let Some(r) = load_records(rt, RIGHT_WORD, &mut right) else {
         return;
     };
     differ_of(rt, context, &left[..l], &right[..r]);

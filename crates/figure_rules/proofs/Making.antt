@@ -1,13 +1,14 @@
 -- What a record's rule makes of children that have entered is a candidate, one higher. Assumes nothing.
-use Prim.Native.Nat.{ℕ, zero, suc, ◌+◌, ◌≤◌, ◌<◌}
+use Prim.Native.Nat.{ℕ, ◌+◌, ◌<◌}
 use mathlib.Core.Bool.{Bool, true, false, cond}
 use mathlib.Core.List.{List, [], ◌∷◌}
-use mathlib.Core.Option.{some}
-use mathlib.Core.Path.{◌≡◌, refl, sym, subst}
+use Rattle.std.specs.Prelude.{Some}
+use mathlib.Core.Path.{◌≡◌, refl}
 use native.Mathlib.Omega.{arith}
 use borrow.Author.Tests.{eqb-true}
 use lib.Dec.{eqb}
-use lib.ListN.{length, get_or, take}
+use lib.ListN.{length, take}
+use Rattle.std.proofs.lemmas.List.{get_or_default}
 use lib.Seq.{get_or-take, length-take-le}
 use Rattle.records.specs.Numbers.{between}
 use Rattle.contexts.specs.declared.Context.{Context}
@@ -20,7 +21,7 @@ use Rattle.figures.proofs.Entering.{multi-a-candidate, sha256-candidate, hash256
 use Rattle.figures.proofs.Entering.{older-candidate, alt-candidate, swap-candidate, check-candidate, dupif-candidate, verify-candidate}
 use Rattle.figures.proofs.Entering.{nonzero-candidate, zeronotequal-candidate, and-b-candidate, and-v-candidate, or-b-candidate, or-d-candidate}
 use Rattle.figures.proofs.Entering.{or-c-candidate, or-i-candidate, and-or-candidate}
-use Rattle.thresholds.specs.Threshold.{threshold, AllEntered}
+use Rattle.thresholds.specs.Threshold.{threshold}
 use Rattle.thresholds.proofs.Making.{all-entered, threshold-candidate}
 use Rattle.figure_rules.specs.ByKind.{or_else, lock_or_hash, leaf_of, cast_of, pair_of, blank, child, figures_by, Ready}
 
@@ -36,7 +37,7 @@ module _ (P : ExtData → Type 0) (kind : ℕ) where
   found d p none = p
   found d p (line {n} {x} {ls} q qs) = by-test (eqb kind n) refl (found d p qs)
     where
-      by-test : (b : Bool) → eqb kind n ≡ b → P (or_else d (find kind ls)) → P (or_else d (cond b (some x) (find kind ls)))
+      by-test : (b : Bool) → eqb kind n ≡ b → P (or_else d (find kind ls)) → P (or_else d (cond b (Some x) (find kind ls)))
       by-test true e rest = q (eqb-true kind n e)
       by-test false e rest = rest
 
@@ -85,7 +86,7 @@ module _ {h kind number k n : ℕ} {xs : List ExtData} (r : Ready h kind number 
       let b = r.bounds (omega arith) in
       let size : length (take n xs) ≡ n = length-take-le n xs (omega (arith, b.2)) in
       threshold-candidate h k (take n xs) (omega (arith, size, b.0, b.1)) (omega (arith, size, b.2))
-      (all-entered h (take n xs) (λ i m. rw (get_or-take n xs i blank (omega (arith, size))) (entered i (omega (arith, size, b.2)))))
+      (all-entered h (take n xs) (λ i m. rw (get_or-take n xs i _ (omega (arith, size)), get_or_default xs i _ blank (omega (arith, size, b.2, long))) (entered i (omega (arith, size, b.2)))))
 
   pub makes : Makes (figures_by c kind number k n xs)
   makes = by_tests (between 42 48 kind) (between 49 54 kind) (eqb kind 55) (eqb kind 56) refl

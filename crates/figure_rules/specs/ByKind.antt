@@ -1,19 +1,17 @@
 -- The figures of a record's fragment by its kind, from its number, its k, how many children or keys it has, and its children's figures:
 -- document 01, "Records", and `figures`, specs/Rules.antt. `tree_figures` shows that these are the figures of the fragment.
-use Rattle.std.specs.Prelude.{ℕ, ◌≤◌, ◌<◌, false, cond, List, [], ◌∷◌, ◌≡◌, eqb, length, get_or, take}
-use Rattle.std.proofs.Math.Option.{Option, none, some}
+use Rattle.std.specs.Prelude.{ℕ, ◌≤◌, ◌<◌, false, cond, List, [], ◌∷◌, eqb, length, get_or, take, Option, None, Some}
 use Rattle.records.specs.Numbers.{between}
 use Rattle.contexts.specs.declared.Context.{Context}
 use Rattle.trees.specs.Tree.{◌is◌, find}
 use Rattle.figures.specs.declared.ExtData.{ExtData}
-use Rattle.figures.specs.declared.Sat.TheVariants as Sat
 use Rattle.figures.specs.Bounds.{Entered}
 use Rattle.figures.specs.Rules as ext
 use Rattle.thresholds.specs.Threshold.{threshold}
 
 abbrev pub or_else : {A : Type 0} → A → Option A → A
-or_else a (some x) = x
-or_else a none = a
+or_else a (Some x) = x
+or_else a None = a
 
 -- a lock or a hash: the last of them is Hash160
 abbrev pub lock_or_hash : (kind number : ℕ) → ExtData
@@ -42,7 +40,7 @@ pair_of kind x y =
 
 -- what stands for a child that is not there
 abbrev pub blank : ExtData
-blank = ext.ext 0 false 0 (Sat.Some (ext.sat_data 0 0 0 0 0)) (Sat.Some (ext.sat_data 0 0 0 0 0)) 0
+blank = ext.ext 0 false 0 (Some (ext.sat_data 0 0 0 0 0)) (Some (ext.sat_data 0 0 0 0 0)) 0
 
 abbrev pub child : List ExtData → ℕ → ExtData
 child xs j = get_or xs j blank

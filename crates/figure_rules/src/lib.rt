@@ -11,10 +11,12 @@ use contexts::Context;
 use figures::ExtData;
 
 // A lock or a hash.
+#[tactic(auto, unfolding(trees::specs::Tree::find))]
 fn lock_or_hash(kind: u16, number: u64) -> ExtData
     requires { 36 ≤ kind → kind ≤ 37 → number < 4294967296 }
     ensures { result ≡ lock_or_hash kind number }
 {
+    // A kind stays a number: a record or a node holds one, and the contract answers on every number.
     match kind {
         36 => ExtData::after(number as u32),
         37 => ExtData::older(number as u32),
@@ -26,10 +28,12 @@ fn lock_or_hash(kind: u16, number: u64) -> ExtData
 }
 
 // A leaf of this kind.
+#[tactic(auto, unfolding(trees::specs::Tree::find))]
 fn leaf(context: Context, kind: u16, number: u64, k: u16, n: u16) -> ExtData
     requires { (36 ≤ kind → kind ≤ 37 → number < 4294967296) × (56 ≤ kind → (1 ≤ k) × (k ≤ n) × (n ≤ 16)) }
     ensures { result ≡ leaf_of context kind number k n }
 {
+    // A kind stays a number: a record or a node holds one, and the contract answers on every number.
     match kind {
         32 => ExtData::FALSE(),
         33 => ExtData::TRUE(),
@@ -42,10 +46,12 @@ fn leaf(context: Context, kind: u16, number: u64, k: u16, n: u16) -> ExtData
 }
 
 // A wrapper of this kind.
+#[tactic(auto, unfolding(trees::specs::Tree::find))]
 fn cast(kind: u16, x: ExtData) -> ExtData
     requires { Small x }
     ensures { result ≡ cast_of kind x }
 {
+    // A kind stays a number: a record or a node holds one, and the contract answers on every number.
     match kind {
         42 => x.cast_alt(),
         43 => x.cast_swap(),
@@ -58,10 +64,12 @@ fn cast(kind: u16, x: ExtData) -> ExtData
 }
 
 // A fragment of this kind with two children.
+#[tactic(auto, unfolding(trees::specs::Tree::find))]
 fn pair(kind: u16, x: ExtData, y: ExtData) -> ExtData
     requires { Small x × Small y }
     ensures { result ≡ pair_of kind x y }
 {
+    // A kind stays a number: a record or a node holds one, and the contract answers on every number.
     match kind {
         49 => ExtData::and_b(x, y),
         50 => ExtData::and_v(x, y),
@@ -84,6 +92,7 @@ pub fn figures_of(
     requires { (h : ℕ) × Ready h kind number k n children }
     ensures { result ≡ figures_by context kind number k n children }
 {
+    // A kind stays a number: a record or a node holds one, and the contract answers on every number.
     match kind {
         42..=48 => {
             let x = children[0];

@@ -1,5 +1,7 @@
 -- What one rule makes of figures that have entered is a candidate; a candidate is small; a candidate that is locally valid enters.
 -- Assumes nothing.
+use Rattle.figures.specs.declared.SatData.{SatData}
+use Rattle.std.specs.Prelude.{Option, None, Some}
 use mathlib.Core.Path.{◌≡◌, refl}
 use mathlib.Core.Bool.{Bool, true, false, not, ◌&&◌}
 use Prim.Native.Nat.{ℕ, ◌+◌, ◌*◌, ◌<◌, ◌≤◌}
@@ -8,8 +10,6 @@ use borrow.Author.Tests.{leb-true}
 use lib.Dec.{leb, eqb}
 use Rattle.contexts.specs.declared.Context.{Context}
 use Rattle.contexts.specs.declared.Context.TheVariants.{Segwitv0, Tap}
-use Rattle.figures.specs.declared.Sat.{Sat}
-use Rattle.figures.specs.declared.Sat.TheVariants.{Some, None}
 use Rattle.figures.specs.declared.ExtData.{ExtData}
 use Rattle.figures.specs.Bounds.{limit, Small, SmallSat, WithinSat, Entered, Candidate}
 use Rattle.figures.specs.Rules.{max, false_ext, true_ext, pk_k, pk_h, multi, multi_a}
@@ -42,7 +42,7 @@ valid-cost Tap kind x h =
     let t = first_two (global_consensus Tap kind x) (global_policy Tap x) (local_consensus Tap x) (local_policy Tap x) h in
     leb-true x.pk_cost MAX-BLOCK-WEIGHT (both_true (not (eqb kind Multi)) (leb x.pk_cost MAX-BLOCK-WEIGHT) t.0).1
 
-pub small-sat : (s : Sat) (n : ℕ) → n ≤ 17 * MAX-BLOCK-WEIGHT → WithinSat n s → SmallSat s
+pub small-sat : (s : Option SatData) (n : ℕ) → n ≤ 17 * MAX-BLOCK-WEIGHT → WithinSat n s → SmallSat s
 small-sat (Some d) n le w = omega arith
 small-sat None n le w = tt
 

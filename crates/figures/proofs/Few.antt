@@ -1,16 +1,11 @@
 -- Bounds of the numbers that the rules add. Assumes nothing.
-use mathlib.Core.Path.{◌≡◌, subst}
 use mathlib.Core.Bool.{Bool, true, false, cond}
-use Prim.Native.Nat.{ℕ, ◌<◌, ◌≤◌}
+use Prim.Native.Nat.{ℕ, ◌≤◌}
 use native.Mathlib.Omega.{arith}
 use lib.Dec.{leb, ltb}
 use Rattle.contexts.specs.declared.Context.{Context}
 use Rattle.contexts.specs.declared.Context.TheVariants.{Segwitv0, Tap}
-use Rattle.figures.specs.declared.SatData.{SatData}
-use Rattle.figures.specs.declared.Sat.{Sat}
-use Rattle.figures.specs.declared.Sat.TheVariants.{Some}
-use Rattle.figures.specs.Bounds.{SmallData, SmallSat, Small}
-use Rattle.figures.specs.Rules.{max, num, script_num_size, key_bytes, max_sig_bytes, num_cost, true_ext, false_ext}
+use Rattle.figures.specs.Rules.{max, num, script_num_size, key_bytes, num_cost}
 
 pub cond-is : (P : ℕ → Type 0) (b : Bool) {x y : ℕ} → P x → P y → P (cond b x y)
 cond-is P true p q = p
@@ -22,9 +17,6 @@ cond-le b {n = n} p q = cond-is (λ m. m ≤ n) b p q
 pub max-le : (a b : ℕ) {n : ℕ} → a ≤ n → b ≤ n → max a b ≤ n
 max-le a b p q = cond-le (leb a b) q p
 
-pub max-lt : (a b : ℕ) {n : ℕ} → a < n → b < n → max a b < n
-max-lt a b {n} p q = cond-is (λ m. m < n) (leb a b) q p
-
 pub num-le : (b : Bool) → num b ≤ 1
 num-le true = omega arith
 num-le false = omega arith
@@ -32,10 +24,6 @@ num-le false = omega arith
 pub key-le : (c : Context) → key_bytes c ≤ 34
 key-le Segwitv0 = omega arith
 key-le Tap = omega arith
-
-pub sig-le : (c : Context) → max_sig_bytes c ≤ 73
-sig-le Segwitv0 = omega arith
-sig-le Tap = omega arith
 
 pub num-size-le : (n : ℕ) → script_num_size n ≤ 6
 num-size-le n =
@@ -47,15 +35,3 @@ num-size-le n =
 pub num-cost-le : (k n : ℕ) → num_cost k n ≤ 4
 num-cost-le k n =
     cond-le (ltb 16 k) (cond-le (ltb 16 n) (omega arith) (omega arith)) (cond-le (ltb 16 n) (omega arith) (omega arith))
-
--- the data of a case that is there
-pub there : {s : Sat} {d : SatData} → s ≡ Some d → SmallSat s → SmallData d
-there e h = subst SmallSat e h
-
-pub true-small : Small true_ext
-unfolding true_ext
-true-small = omega arith
-
-pub false-small : Small false_ext
-unfolding false_ext
-false-small = omega arith

@@ -1,11 +1,11 @@
 -- Every rule keeps `Within`. Assumes nothing.
+use Rattle.figures.specs.declared.SatData.{SatData}
+use Rattle.std.specs.Prelude.{Option, None, Some}
 use mathlib.Core.Bool.{not}
 use Prim.Native.Nat.{ℕ, ◌+◌, ◌≤◌}
 use native.Mathlib.Omega.{arith}
 use Rattle.contexts.specs.declared.Context.{Context}
 use Rattle.contexts.specs.declared.Context.TheVariants.{Segwitv0, Tap}
-use Rattle.figures.specs.declared.Sat.{Sat}
-use Rattle.figures.specs.declared.Sat.TheVariants.{Some, None}
 use Rattle.figures.specs.declared.ExtData.{ExtData}
 use Rattle.figures.specs.Bounds.{WithinSat, Within}
 use Rattle.figures.specs.Rules.{num, fieldwise_max_opt, map_sat, sat_concat}
@@ -18,11 +18,11 @@ use Rattle.figures.proofs.Few.{max-le}
 
 -- cases
 
-pub more : (s : Sat) (m n : ℕ) → m ≤ n → WithinSat m s → WithinSat n s
+pub more : (s : Option SatData) (m n : ℕ) → m ≤ n → WithinSat m s → WithinSat n s
 more (Some d) m n le w = omega arith
 more None m n le w = tt
 
-pub max-within : (x y : Sat) (n : ℕ) → WithinSat n x → WithinSat n y → WithinSat n (fieldwise_max_opt x y)
+pub max-within : (x y : Option SatData) (n : ℕ) → WithinSat n x → WithinSat n y → WithinSat n (fieldwise_max_opt x y)
 max-within None y n v w = w
 max-within (Some x) None n v w = v
 max-within (Some x) (Some y) n v w =
@@ -34,25 +34,25 @@ max-within (Some x) (Some y) n v w =
       ops = max-le _ _ v.ops w.ops;
     }
 
-pub concat-within : (kept : ℕ) (x y : Sat) (m n : ℕ) → WithinSat m x → WithinSat n y → WithinSat (m + n + kept) (sat_concat kept x y)
+pub concat-within : (kept : ℕ) (x y : Option SatData) (m n : ℕ) → WithinSat m x → WithinSat n y → WithinSat (m + n + kept) (sat_concat kept x y)
 concat-within kept None y m n v w = tt
 concat-within kept (Some x) None m n v w = tt
 concat-within kept (Some x) (Some y) m n v w =
     omega (arith, max-le x.max_exec_stack_count (kept + y.max_exec_stack_count) {n = m + n + kept} (omega arith) (omega arith))
 
-dup-if-within : (x : Sat) (n : ℕ) → WithinSat n x → WithinSat (n + 2) (map_sat dup_if x)
+dup-if-within : (x : Option SatData) (n : ℕ) → WithinSat n x → WithinSat (n + 2) (map_sat dup_if x)
 dup-if-within None n w = tt
 dup-if-within (Some x) n w = omega (arith, max-le 1 x.max_exec_stack_count {n = n + 2} (omega arith) (omega arith))
 
-with-0-within : (x : Sat) (n : ℕ) → WithinSat n x → WithinSat (n + 1) (map_sat with0 x)
+with-0-within : (x : Option SatData) (n : ℕ) → WithinSat n x → WithinSat (n + 1) (map_sat with0 x)
 with-0-within None n w = tt
 with-0-within (Some x) n w = omega arith
 
-with-1-within : (x : Sat) (n : ℕ) → WithinSat n x → WithinSat (n + 1) (map_sat with1 x)
+with-1-within : (x : Option SatData) (n : ℕ) → WithinSat n x → WithinSat (n + 1) (map_sat with1 x)
 with-1-within None n w = tt
 with-1-within (Some x) n w = omega arith
 
-either-within : (x y : Sat) (m n : ℕ) → WithinSat m x → WithinSat n y → WithinSat (m + n + 3) (either_branch x y)
+either-within : (x y : Option SatData) (m n : ℕ) → WithinSat m x → WithinSat n y → WithinSat (m + n + 3) (either_branch x y)
 either-within x y m n v w =
     max-within (map_sat with1 x) (map_sat with0 y) (m + n + 3)
     (more (map_sat with1 x) (m + 1) (m + n + 3) (omega arith) (with-1-within x m v))
@@ -161,7 +161,7 @@ module _ (x : ExtData) (w : Within x) where
 
 module _ (l r : ExtData) (v : Within l) (w : Within r) where
   -- one case of each, over `more` bytes
-  two : (kept add : ℕ) → kept ≤ add → (x y : Sat) → WithinSat l.pk_cost x → WithinSat r.pk_cost y
+  two : (kept add : ℕ) → kept ≤ add → (x y : Option SatData) → WithinSat l.pk_cost x → WithinSat r.pk_cost y
       → WithinSat (l.pk_cost + r.pk_cost + add) (sat_concat kept x y)
   two kept add le x y p q =
       more (sat_concat kept x y) (l.pk_cost + r.pk_cost + kept) (l.pk_cost + r.pk_cost + add) (omega arith)

@@ -1,9 +1,7 @@
 -- Bounds of the figures of src/miniscript/types/extra_props.rs: when no sum of a rule wraps in 64 bits, and what every rule keeps.
 -- Assumes nothing: these are definitions.
-use Rattle.std.specs.Prelude.{ℕ, ◌*◌, ◌<◌, ◌≤◌}
+use Rattle.std.specs.Prelude.{ℕ, ◌*◌, ◌<◌, ◌≤◌, Option, None, Some}
 use Rattle.figures.specs.declared.SatData.{SatData}
-use Rattle.figures.specs.declared.Sat.{Sat}
-use Rattle.figures.specs.declared.Sat.TheVariants.{Some, None}
 use Rattle.figures.specs.declared.ExtData.{ExtData}
 use Rattle.figures.specs.Validity.{MAX-BLOCK-WEIGHT}
 
@@ -18,7 +16,7 @@ pub record SmallData (d : SatData) : Type 0 where
   pub stack : d.max_exec_stack_count < limit
   pub ops : d.max_exec_op_count < limit
 
-abbrev pub SmallSat : Sat → Type 0
+abbrev pub SmallSat : Option SatData → Type 0
 SmallSat (Some d) = SmallData d
 SmallSat None = Unit
 
@@ -38,7 +36,7 @@ pub record WithinData (bytes : ℕ) (d : SatData) : Type 0 where
   pub stack : d.max_exec_stack_count ≤ bytes
   pub ops : d.max_exec_op_count ≤ bytes
 
-abbrev pub WithinSat : ℕ → Sat → Type 0
+abbrev pub WithinSat : ℕ → Option SatData → Type 0
 WithinSat bytes (Some d) = WithinData bytes d
 WithinSat bytes None = Unit
 

@@ -1,11 +1,9 @@
 -- The figures of each fragment, from src/miniscript/types/extra_props.rs, in its order: the fields that cost, local validity and
 -- free-verify read, and the two sizes, which decide ties in a threshold's sorts. Assumes nothing: these are definitions.
-use Rattle.std.specs.Prelude.{Bool, true, false, not, cond, ℕ, ◌+◌, ◌*◌, ◌-◌, leb, ltb}
+use Rattle.std.specs.Prelude.{Bool, true, false, not, cond, ℕ, ◌+◌, ◌*◌, ◌-◌, leb, ltb, Option, None, Some}
 use Rattle.contexts.specs.declared.Context.{Context}
 use Rattle.contexts.specs.declared.Context.TheVariants.{Segwitv0, Tap}
 use Rattle.figures.specs.declared.SatData.{SatData}
-use Rattle.figures.specs.declared.Sat.{Sat}
-use Rattle.figures.specs.declared.Sat.TheVariants.{Some, None}
 use Rattle.figures.specs.declared.ExtData.{ExtData}
 
 abbrev pub max : ℕ → ℕ → ℕ
@@ -28,7 +26,7 @@ sat_data size count sig stack ops =
     }
 
 -- script bytes, free-verify, static operations, satisfaction, dissatisfaction, height
-abbrev pub ext : ℕ → Bool → ℕ → Sat → Sat → ℕ → ExtData
+abbrev pub ext : ℕ → Bool → ℕ → Option SatData → Option SatData → ℕ → ExtData
 ext cost free ops sat dissat height =
     record {
       pk_cost = cost;
@@ -47,12 +45,12 @@ fieldwise_max x y =
     (max x.max_exec_stack_count y.max_exec_stack_count)
     (max x.max_exec_op_count y.max_exec_op_count)
 
-abbrev pub fieldwise_max_opt : Sat → Sat → Sat
+abbrev pub fieldwise_max_opt : Option SatData → Option SatData → Option SatData
 fieldwise_max_opt None y = y
 fieldwise_max_opt (Some x) None = Some x
 fieldwise_max_opt (Some x) (Some y) = Some (fieldwise_max x y)
 
-abbrev pub map_sat : (SatData → SatData) → Sat → Sat
+abbrev pub map_sat : (SatData → SatData) → Option SatData → Option SatData
 map_sat f None = None
 map_sat f (Some x) = Some (f x)
 
@@ -65,7 +63,7 @@ concat kept l r =
     (max l.max_exec_stack_count (kept + r.max_exec_stack_count))
     (l.max_exec_op_count + r.max_exec_op_count)
 
-abbrev pub sat_concat : ℕ → Sat → Sat → Sat
+abbrev pub sat_concat : ℕ → Option SatData → Option SatData → Option SatData
 sat_concat kept None r = None
 sat_concat kept (Some l) None = None
 sat_concat kept (Some l) (Some r) = Some (concat kept l r)
@@ -151,7 +149,7 @@ dup_if d =
     (max 1 d.max_exec_stack_count) d.max_exec_op_count
 
 -- one element, empty, to dissatisfy
-abbrev pub one_element : Sat
+abbrev pub one_element : Option SatData
 one_element = Some (sat_data 1 1 1 1 0)
 
 unfoldable pub cast_dupif : ExtData → ExtData
@@ -211,7 +209,7 @@ with1 d =
     d.max_exec_stack_count d.max_exec_op_count
 
 -- a 1 chooses the first, a 0 the second
-abbrev pub either_branch : Sat → Sat → Sat
+abbrev pub either_branch : Option SatData → Option SatData → Option SatData
 either_branch l r = fieldwise_max_opt (map_sat with1 l) (map_sat with0 r)
 
 unfoldable pub or_i : ExtData → ExtData → ExtData

@@ -1,10 +1,9 @@
 -- When a context takes a fragment's figures, from src/miniscript/context.rs and limits.rs, and `from_ast` of
 -- src/miniscript/mod.rs. Assumes nothing: these are definitions.
-use Rattle.std.specs.Prelude.{Bool, true, false, not, ◌&&◌, ℕ, ◌+◌, leb, eqb}
+use Rattle.figures.specs.declared.SatData.{SatData}
+use Rattle.std.specs.Prelude.{Bool, true, false, not, ◌&&◌, ℕ, ◌+◌, leb, eqb, Option, None, Some}
 use Rattle.contexts.specs.declared.Context.{Context}
 use Rattle.contexts.specs.declared.Context.TheVariants.{Segwitv0, Tap}
-use Rattle.figures.specs.declared.Sat.{Sat}
-use Rattle.figures.specs.declared.Sat.TheVariants.{Some, None}
 use Rattle.figures.specs.declared.ExtData.{ExtData}
 
 -- document 01's numbers of the two kinds that one context refuses
@@ -44,17 +43,17 @@ global_policy Segwitv0 x = leb x.pk_cost MAX-STANDARD-P2WSH-SCRIPT-SIZE
 global_policy Tap x = true
 
 -- the operations of a satisfaction, executed or not
-abbrev pub ops_within : ℕ → Sat → Bool
+abbrev pub ops_within : ℕ → Option SatData → Bool
 ops_within static None = false
 ops_within static (Some d) = leb (static + d.max_exec_op_count) MAX-OPS-PER-SCRIPT
 
 -- the elements of a satisfaction, with those that execution adds
-abbrev pub stack_within : Sat → Bool
+abbrev pub stack_within : Option SatData → Bool
 stack_within None = true
 stack_within (Some d) = leb (d.max_witness_stack_count + d.max_exec_stack_count) MAX-STACK-SIZE
 
 -- the elements of a satisfaction, with the witness script
-abbrev pub items_within : Sat → Bool
+abbrev pub items_within : Option SatData → Bool
 items_within None = false
 items_within (Some d) = leb (d.max_witness_stack_count + 1) MAX-STANDARD-P2WSH-STACK-ITEMS
 

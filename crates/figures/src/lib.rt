@@ -46,21 +46,14 @@ pub struct SatData {
     pub max_exec_op_count: u64,
 }
 
-// A worst case, or none where there is no way to satisfy, or to dissatisfy.
-#[derive(Clone, Copy)]
-pub enum Sat {
-    Some(SatData),
-    None,
-}
-
 // The figures of a fragment.
 #[derive(Clone, Copy)]
 pub struct ExtData {
     pub pk_cost: u64,
     pub has_free_verify: bool,
     pub static_ops: u64,
-    pub sat_data: Sat,
-    pub dissat_data: Sat,
+    pub sat_data: Option<SatData>,
+    pub dissat_data: Option<SatData>,
     pub tree_height: u64,
 }
 
@@ -172,66 +165,54 @@ impl SatData {
     }
 }
 
-impl Sat {
-    // The larger of two cases; one alone where the other is missing.
-    pub fn fieldwise_max_opt(self, other: Sat) -> Sat
-        ensures { result ≡ fieldwise_max_opt self other }
-    {
-        match self {
-            Sat::None => other,
-            Sat::Some(x) => match other {
-                Sat::None => Sat::Some(x),
-                Sat::Some(y) => Sat::Some(x.fieldwise_max(y)),
-            },
-        }
+// The larger of two cases; one alone where the other is missing.
+pub fn fieldwise_max_opt(one: Option<SatData>, other: Option<SatData>) -> Option<SatData>
+    ensures { result ≡ fieldwise_max_opt one other }
+{
+    match one {
+        None => other,
+        Some(x) => match other {
+            None => Some(x),
+            Some(y) => Some(x.fieldwise_max(y)),
+        },
     }
+}
 
-    // This case and then another, where neither is missing.
-    pub fn sat_concat(self, kept: u64, other: Sat) -> Sat
-        requires { (kept ≤ 1) × (SmallSat self × SmallSat other) }
-        ensures { result ≡ sat_concat kept self other }
-    {
-        match self {
-            Sat::None => Sat::None,
-            Sat::Some(x) => match other {
-                Sat::None => Sat::None,
-                Sat::Some(y) => Sat::Some(x.concat(kept, y)),
-            },
-        }
-    }
+// One case and then another, where neither is missing.
+pub fn sat_concat(one: Option<SatData>, kept: u64, other: Option<SatData>) -> Option<SatData>
+    requires { (kept ≤ 1) × (SmallSat one × SmallSat other) }
+    ensures { result ≡ sat_concat kept one other }
+{
+    let x = one?;
+    let y = other?;
+    Some(x.concat(kept, y))
+}
 
-    // This case, if any, under DUP IF.
-    fn map_dup_if(self) -> Sat
-        requires { SmallSat self }
-        ensures { result ≡ map_sat dup_if self }
-    {
-        match self {
-            Sat::None => Sat::None,
-            Sat::Some(x) => Sat::Some(x.dup_if()),
-        }
-    }
+// A case, if any, under DUP IF.
+fn map_dup_if(sat: Option<SatData>) -> Option<SatData>
+    requires { SmallSat sat }
+    ensures { result ≡ map_sat dup_if sat }
+{
+    let x = sat?;
+    Some(x.dup_if())
+}
 
-    // This case, if any, under a 0.
-    fn map_with_0(self) -> Sat
-        requires { SmallSat self }
-        ensures { result ≡ map_sat with0 self }
-    {
-        match self {
-            Sat::None => Sat::None,
-            Sat::Some(x) => Sat::Some(x.with_0()),
-        }
-    }
+// A case, if any, under a 0.
+fn map_with_0(sat: Option<SatData>) -> Option<SatData>
+    requires { SmallSat sat }
+    ensures { result ≡ map_sat with0 sat }
+{
+    let x = sat?;
+    Some(x.with_0())
+}
 
-    // This case, if any, under a 1.
-    fn map_with_1(self) -> Sat
-        requires { SmallSat self }
-        ensures { result ≡ map_sat with1 self }
-    {
-        match self {
-            Sat::None => Sat::None,
-            Sat::Some(x) => Sat::Some(x.with_1()),
-        }
-    }
+// A case, if any, under a 1.
+fn map_with_1(sat: Option<SatData>) -> Option<SatData>
+    requires { SmallSat sat }
+    ensures { result ≡ map_sat with1 sat }
+{
+    let x = sat?;
+    Some(x.with_1())
 }
 
 // The bytes of a key with its push.
@@ -274,14 +255,14 @@ fn hash(push: u64) -> ExtData
         pk_cost: push + 6,
         has_free_verify: true,
         static_ops: 4,
-        sat_data: Sat::Some(SatData {
+        sat_data: Some(SatData {
             max_witness_stack_size: 33,
             max_witness_stack_count: 1,
             max_script_sig_size: 33,
             max_exec_stack_count: 2,
             max_exec_op_count: 0,
         }),
-        dissat_data: Sat::Some(SatData {
+        dissat_data: Some(SatData {
             max_witness_stack_size: 33,
             max_witness_stack_count: 2,
             max_script_sig_size: 33,
@@ -300,23 +281,23 @@ fn lock(t: u32) -> ExtData
         pk_cost: script_num_size(t as u64) + 1,
         has_free_verify: false,
         static_ops: 1,
-        sat_data: Sat::Some(SatData {
+        sat_data: Some(SatData {
             max_witness_stack_size: 0,
             max_witness_stack_count: 0,
             max_script_sig_size: 0,
             max_exec_stack_count: 1,
             max_exec_op_count: 0,
         }),
-        dissat_data: Sat::None,
+        dissat_data: None,
         tree_height: 0,
     }
 }
 
 // The case of one empty element, which dissatisfies `d:X` and `j:X`.
-fn one_element() -> Sat
+fn one_element() -> Option<SatData>
     ensures { result ≡ one_element }
 {
-    Sat::Some(SatData {
+    Some(SatData {
         max_witness_stack_size: 1,
         max_witness_stack_count: 1,
         max_script_sig_size: 1,
@@ -327,6 +308,7 @@ fn one_element() -> Sat
 
 impl ExtData {
     // The figures of `0`.
+    #[tactic(auto, unfolding(crate::specs::Rules::false_ext))]
     pub fn FALSE() -> ExtData
         ensures { result ≡ false_ext }
     {
@@ -334,8 +316,8 @@ impl ExtData {
             pk_cost: 1,
             has_free_verify: false,
             static_ops: 0,
-            sat_data: Sat::None,
-            dissat_data: Sat::Some(SatData {
+            sat_data: None,
+            dissat_data: Some(SatData {
                 max_witness_stack_size: 0,
                 max_witness_stack_count: 0,
                 max_script_sig_size: 0,
@@ -347,6 +329,7 @@ impl ExtData {
     }
 
     // The figures of `1`.
+    #[tactic(auto, unfolding(crate::specs::Rules::true_ext))]
     pub fn TRUE() -> ExtData
         ensures { result ≡ true_ext }
     {
@@ -354,19 +337,20 @@ impl ExtData {
             pk_cost: 1,
             has_free_verify: false,
             static_ops: 0,
-            sat_data: Sat::Some(SatData {
+            sat_data: Some(SatData {
                 max_witness_stack_size: 0,
                 max_witness_stack_count: 0,
                 max_script_sig_size: 0,
                 max_exec_stack_count: 1,
                 max_exec_op_count: 0,
             }),
-            dissat_data: Sat::None,
+            dissat_data: None,
             tree_height: 0,
         }
     }
 
     // The figures of a key.
+    #[tactic(auto, unfolding(crate::specs::Rules::pk_k))]
     pub fn pk_k(c: Context) -> ExtData
         ensures { result ≡ pk_k c }
     {
@@ -376,14 +360,14 @@ impl ExtData {
             pk_cost: key_bytes,
             has_free_verify: false,
             static_ops: 0,
-            sat_data: Sat::Some(SatData {
+            sat_data: Some(SatData {
                 max_witness_stack_size: max_sig_bytes,
                 max_witness_stack_count: 1,
                 max_script_sig_size: max_sig_bytes,
                 max_exec_stack_count: 1,
                 max_exec_op_count: 0,
             }),
-            dissat_data: Sat::Some(SatData {
+            dissat_data: Some(SatData {
                 max_witness_stack_size: 1,
                 max_witness_stack_count: 1,
                 max_script_sig_size: 1,
@@ -395,6 +379,7 @@ impl ExtData {
     }
 
     // The figures of a key's hash.
+    #[tactic(auto, unfolding(crate::specs::Rules::pk_h))]
     pub fn pk_h(c: Context) -> ExtData
         ensures { result ≡ pk_h c }
     {
@@ -404,14 +389,14 @@ impl ExtData {
             pk_cost: 24,
             has_free_verify: false,
             static_ops: 3,
-            sat_data: Sat::Some(SatData {
+            sat_data: Some(SatData {
                 max_witness_stack_size: key_bytes + max_sig_bytes,
                 max_witness_stack_count: 2,
                 max_script_sig_size: key_bytes + max_sig_bytes,
                 max_exec_stack_count: 2,
                 max_exec_op_count: 0,
             }),
-            dissat_data: Sat::Some(SatData {
+            dissat_data: Some(SatData {
                 max_witness_stack_size: key_bytes + 1,
                 max_witness_stack_count: 2,
                 max_script_sig_size: key_bytes + 1,
@@ -423,6 +408,7 @@ impl ExtData {
     }
 
     // The figures of k of n keys by CHECKMULTISIG.
+    #[tactic(auto, unfolding(crate::specs::Rules::multi))]
     pub fn multi(k: u16, n: u16) -> ExtData
         ensures { result ≡ multi k n }
     {
@@ -432,14 +418,14 @@ impl ExtData {
             pk_cost: num_cost(k, n) + 34 * n + 1,
             has_free_verify: true,
             static_ops: 1,
-            sat_data: Sat::Some(SatData {
+            sat_data: Some(SatData {
                 max_witness_stack_size: 1 + 73 * k,
                 max_witness_stack_count: k + 1,
                 max_script_sig_size: 1 + 73 * k,
                 max_exec_stack_count: n,
                 max_exec_op_count: n,
             }),
-            dissat_data: Sat::Some(SatData {
+            dissat_data: Some(SatData {
                 max_witness_stack_size: 1 + k,
                 max_witness_stack_count: k + 1,
                 max_script_sig_size: 1 + k,
@@ -451,6 +437,7 @@ impl ExtData {
     }
 
     // The figures of k of n keys by CHECKSIGADD.
+    #[tactic(auto, unfolding(crate::specs::Rules::multi_a))]
     pub fn multi_a(k: u16, n: u16) -> ExtData
         requires { (1 ≤ k) × (k ≤ n) }
         ensures { result ≡ multi_a k n }
@@ -461,14 +448,14 @@ impl ExtData {
             pk_cost: num_cost(k, n) + 33 * n + (n - 1) + 1,
             has_free_verify: true,
             static_ops: 0,
-            sat_data: Sat::Some(SatData {
+            sat_data: Some(SatData {
                 max_witness_stack_size: n - k + 66 * k,
                 max_witness_stack_count: n,
                 max_script_sig_size: 0,
                 max_exec_stack_count: 2,
                 max_exec_op_count: 0,
             }),
-            dissat_data: Sat::Some(SatData {
+            dissat_data: Some(SatData {
                 max_witness_stack_size: n,
                 max_witness_stack_count: n,
                 max_script_sig_size: 0,
@@ -480,6 +467,7 @@ impl ExtData {
     }
 
     // The figures of `sha256`.
+    #[tactic(auto, unfolding(crate::specs::Rules::sha256))]
     pub fn sha256() -> ExtData
         ensures { result ≡ sha256 }
     {
@@ -487,6 +475,7 @@ impl ExtData {
     }
 
     // The figures of `hash256`.
+    #[tactic(auto, unfolding(crate::specs::Rules::hash256))]
     pub fn hash256() -> ExtData
         ensures { result ≡ hash256 }
     {
@@ -494,6 +483,7 @@ impl ExtData {
     }
 
     // The figures of `ripemd160`.
+    #[tactic(auto, unfolding(crate::specs::Rules::ripemd160))]
     pub fn ripemd160() -> ExtData
         ensures { result ≡ ripemd160 }
     {
@@ -501,6 +491,7 @@ impl ExtData {
     }
 
     // The figures of `hash160`.
+    #[tactic(auto, unfolding(crate::specs::Rules::hash160))]
     pub fn hash160() -> ExtData
         ensures { result ≡ hash160 }
     {
@@ -508,6 +499,7 @@ impl ExtData {
     }
 
     // The figures of `after(t)`.
+    #[tactic(auto, unfolding(crate::specs::Rules::after))]
     pub fn after(t: u32) -> ExtData
         ensures { result ≡ after t }
     {
@@ -515,6 +507,7 @@ impl ExtData {
     }
 
     // The figures of `older(t)`.
+    #[tactic(auto, unfolding(crate::specs::Rules::older))]
     pub fn older(t: u32) -> ExtData
         ensures { result ≡ older t }
     {
@@ -522,63 +515,60 @@ impl ExtData {
     }
 
     // The figures of `a:X`.
+    #[tactic(auto, unfolding(crate::specs::Rules::cast_alt))]
     pub fn cast_alt(self) -> ExtData
         requires { Small self }
         ensures { result ≡ cast_alt self }
     {
-        let sat_data = self.sat_data;
-        let dissat_data = self.dissat_data;
         ExtData {
             pk_cost: self.pk_cost + 2,
             has_free_verify: false,
             static_ops: 2 + self.static_ops,
-            sat_data,
-            dissat_data,
+            sat_data: self.sat_data,
+            dissat_data: self.dissat_data,
             tree_height: self.tree_height + 1,
         }
     }
 
     // The figures of `s:X`.
+    #[tactic(auto, unfolding(crate::specs::Rules::cast_swap))]
     pub fn cast_swap(self) -> ExtData
         requires { Small self }
         ensures { result ≡ cast_swap self }
     {
-        let sat_data = self.sat_data;
-        let dissat_data = self.dissat_data;
         ExtData {
             pk_cost: self.pk_cost + 1,
             has_free_verify: self.has_free_verify,
             static_ops: 1 + self.static_ops,
-            sat_data,
-            dissat_data,
+            sat_data: self.sat_data,
+            dissat_data: self.dissat_data,
             tree_height: self.tree_height + 1,
         }
     }
 
     // The figures of `c:X`.
+    #[tactic(auto, unfolding(crate::specs::Rules::cast_check))]
     pub fn cast_check(self) -> ExtData
         requires { Small self }
         ensures { result ≡ cast_check self }
     {
-        let sat_data = self.sat_data;
-        let dissat_data = self.dissat_data;
         ExtData {
             pk_cost: self.pk_cost + 1,
             has_free_verify: true,
             static_ops: 1 + self.static_ops,
-            sat_data,
-            dissat_data,
+            sat_data: self.sat_data,
+            dissat_data: self.dissat_data,
             tree_height: self.tree_height + 1,
         }
     }
 
     // The figures of `d:X`.
+    #[tactic(auto, unfolding(crate::specs::Rules::cast_dupif))]
     pub fn cast_dupif(self) -> ExtData
         requires { Small self }
         ensures { result ≡ cast_dupif self }
     {
-        let sat = self.sat_data;
-        let sat_data = sat.map_dup_if();
+        let sat_data = map_dup_if(self.sat_data);
         let dissat_data = one_element();
         ExtData {
             pk_cost: self.pk_cost + 3,
@@ -591,57 +581,57 @@ impl ExtData {
     }
 
     // The figures of `v:X`.
+    #[tactic(auto, unfolding(crate::specs::Rules::cast_verify))]
     pub fn cast_verify(self) -> ExtData
         requires { Small self }
         ensures { result ≡ cast_verify self }
     {
         let verify_cost = verify_cost(self.has_free_verify);
-        let sat_data = self.sat_data;
         ExtData {
             pk_cost: self.pk_cost + verify_cost,
             has_free_verify: false,
             static_ops: verify_cost + self.static_ops,
-            sat_data,
-            dissat_data: Sat::None,
+            sat_data: self.sat_data,
+            dissat_data: None,
             tree_height: self.tree_height + 1,
         }
     }
 
     // The figures of `j:X`.
+    #[tactic(auto, unfolding(crate::specs::Rules::cast_nonzero))]
     pub fn cast_nonzero(self) -> ExtData
         requires { Small self }
         ensures { result ≡ cast_nonzero self }
     {
-        let sat_data = self.sat_data;
         let dissat_data = one_element();
         ExtData {
             pk_cost: self.pk_cost + 4,
             has_free_verify: false,
             static_ops: 4 + self.static_ops,
-            sat_data,
+            sat_data: self.sat_data,
             dissat_data,
             tree_height: self.tree_height + 1,
         }
     }
 
     // The figures of `n:X`.
+    #[tactic(auto, unfolding(crate::specs::Rules::cast_zeronotequal))]
     pub fn cast_zeronotequal(self) -> ExtData
         requires { Small self }
         ensures { result ≡ cast_zeronotequal self }
     {
-        let sat_data = self.sat_data;
-        let dissat_data = self.dissat_data;
         ExtData {
             pk_cost: self.pk_cost + 1,
             has_free_verify: false,
             static_ops: 1 + self.static_ops,
-            sat_data,
-            dissat_data,
+            sat_data: self.sat_data,
+            dissat_data: self.dissat_data,
             tree_height: self.tree_height + 1,
         }
     }
 
     // The figures of `t:X`, that is `and_v(X,1)`.
+    #[tactic(auto, unfolding(crate::specs::Rules::cast_true, crate::specs::Rules::and_v, crate::specs::Rules::true_ext))]
     pub fn cast_true(self) -> ExtData
         requires { Small self }
         ensures { result ≡ cast_true self }
@@ -650,6 +640,7 @@ impl ExtData {
     }
 
     // The figures of `u:X`, that is `or_i(X,0)`.
+    #[tactic(auto, unfolding(crate::specs::Rules::cast_unlikely, crate::specs::Rules::or_i, crate::specs::Rules::false_ext))]
     pub fn cast_unlikely(self) -> ExtData
         requires { Small self }
         ensures { result ≡ cast_unlikely self }
@@ -658,6 +649,7 @@ impl ExtData {
     }
 
     // The figures of `l:X`, that is `or_i(0,X)`.
+    #[tactic(auto, unfolding(crate::specs::Rules::cast_likely, crate::specs::Rules::or_i, crate::specs::Rules::false_ext))]
     pub fn cast_likely(self) -> ExtData
         requires { Small self }
         ensures { result ≡ cast_likely self }
@@ -666,16 +658,13 @@ impl ExtData {
     }
 
     // The figures of `and_b(l,r)`.
+    #[tactic(auto, unfolding(crate::specs::Rules::and_b))]
     pub fn and_b(l: ExtData, r: ExtData) -> ExtData
         requires { Small l × Small r }
         ensures { result ≡ and_b l r }
     {
-        let l_sat = l.sat_data;
-        let r_sat = r.sat_data;
-        let sat_data = l_sat.sat_concat(1, r_sat);
-        let l_dissat = l.dissat_data;
-        let r_dissat = r.dissat_data;
-        let dissat_data = l_dissat.sat_concat(1, r_dissat);
+        let sat_data = sat_concat(l.sat_data, 1, r.sat_data);
+        let dissat_data = sat_concat(l.dissat_data, 1, r.dissat_data);
         ExtData {
             pk_cost: l.pk_cost + r.pk_cost + 1,
             has_free_verify: false,
@@ -687,36 +676,32 @@ impl ExtData {
     }
 
     // The figures of `and_v(l,r)`.
+    #[tactic(auto, unfolding(crate::specs::Rules::and_v))]
     pub fn and_v(l: ExtData, r: ExtData) -> ExtData
         requires { Small l × Small r }
         ensures { result ≡ and_v l r }
     {
-        let l_sat = l.sat_data;
-        let r_sat = r.sat_data;
-        let sat_data = l_sat.sat_concat(0, r_sat);
+        let sat_data = sat_concat(l.sat_data, 0, r.sat_data);
         ExtData {
             pk_cost: l.pk_cost + r.pk_cost,
             has_free_verify: r.has_free_verify,
             static_ops: l.static_ops + r.static_ops,
             sat_data,
-            dissat_data: Sat::None,
+            dissat_data: None,
             tree_height: over(l.tree_height, r.tree_height),
         }
     }
 
     // The figures of `or_b(l,r)`.
+    #[tactic(auto, unfolding(crate::specs::Rules::or_b))]
     pub fn or_b(l: ExtData, r: ExtData) -> ExtData
         requires { Small l × Small r }
         ensures { result ≡ or_b l r }
     {
-        let l_sat = l.sat_data;
-        let r_sat = r.sat_data;
-        let l_dissat = l.dissat_data;
-        let r_dissat = r.dissat_data;
-        let first = l_sat.sat_concat(1, r_dissat);
-        let second = l_dissat.sat_concat(1, r_sat);
-        let sat_data = first.fieldwise_max_opt(second);
-        let dissat_data = l_dissat.sat_concat(1, r_dissat);
+        let first = sat_concat(l.sat_data, 1, r.dissat_data);
+        let second = sat_concat(l.dissat_data, 1, r.sat_data);
+        let sat_data = fieldwise_max_opt(first, second);
+        let dissat_data = sat_concat(l.dissat_data, 1, r.dissat_data);
         ExtData {
             pk_cost: l.pk_cost + r.pk_cost + 1,
             has_free_verify: false,
@@ -728,17 +713,14 @@ impl ExtData {
     }
 
     // The figures of `or_d(l,r)`.
+    #[tactic(auto, unfolding(crate::specs::Rules::or_d))]
     pub fn or_d(l: ExtData, r: ExtData) -> ExtData
         requires { Small l × Small r }
         ensures { result ≡ or_d l r }
     {
-        let l_sat = l.sat_data;
-        let r_sat = r.sat_data;
-        let l_dissat = l.dissat_data;
-        let r_dissat = r.dissat_data;
-        let second = l_dissat.sat_concat(0, r_sat);
-        let sat_data = l_sat.fieldwise_max_opt(second);
-        let dissat_data = l_dissat.sat_concat(0, r_dissat);
+        let second = sat_concat(l.dissat_data, 0, r.sat_data);
+        let sat_data = fieldwise_max_opt(l.sat_data, second);
+        let dissat_data = sat_concat(l.dissat_data, 0, r.dissat_data);
         ExtData {
             pk_cost: l.pk_cost + r.pk_cost + 3,
             has_free_verify: false,
@@ -750,36 +732,31 @@ impl ExtData {
     }
 
     // The figures of `or_c(l,r)`.
+    #[tactic(auto, unfolding(crate::specs::Rules::or_c))]
     pub fn or_c(l: ExtData, r: ExtData) -> ExtData
         requires { Small l × Small r }
         ensures { result ≡ or_c l r }
     {
-        let l_sat = l.sat_data;
-        let r_sat = r.sat_data;
-        let l_dissat = l.dissat_data;
-        let second = l_dissat.sat_concat(0, r_sat);
-        let sat_data = l_sat.fieldwise_max_opt(second);
+        let second = sat_concat(l.dissat_data, 0, r.sat_data);
+        let sat_data = fieldwise_max_opt(l.sat_data, second);
         ExtData {
             pk_cost: l.pk_cost + r.pk_cost + 2,
             has_free_verify: false,
             static_ops: 2 + l.static_ops + r.static_ops,
             sat_data,
-            dissat_data: Sat::None,
+            dissat_data: None,
             tree_height: over(l.tree_height, r.tree_height),
         }
     }
 
     // The figures of `or_i(l,r)`.
+    #[tactic(auto, unfolding(crate::specs::Rules::or_i))]
     pub fn or_i(l: ExtData, r: ExtData) -> ExtData
         requires { Small l × Small r }
         ensures { result ≡ or_i l r }
     {
-        let l_sat = l.sat_data;
-        let r_sat = r.sat_data;
-        let l_dissat = l.dissat_data;
-        let r_dissat = r.dissat_data;
-        let sat_data = either_branch(l_sat, r_sat);
-        let dissat_data = either_branch(l_dissat, r_dissat);
+        let sat_data = either_branch(l.sat_data, r.sat_data);
+        let dissat_data = either_branch(l.dissat_data, r.dissat_data);
         ExtData {
             pk_cost: l.pk_cost + r.pk_cost + 3,
             has_free_verify: false,
@@ -791,19 +768,15 @@ impl ExtData {
     }
 
     // The figures of `andor(a,b,c)`.
+    #[tactic(auto, unfolding(crate::specs::Rules::and_or))]
     pub fn and_or(a: ExtData, b: ExtData, c: ExtData) -> ExtData
         requires { Small a × (Small b × Small c) }
         ensures { result ≡ and_or a b c }
     {
-        let a_sat = a.sat_data;
-        let b_sat = b.sat_data;
-        let c_sat = c.sat_data;
-        let a_dissat = a.dissat_data;
-        let c_dissat = c.dissat_data;
-        let first = a_sat.sat_concat(0, b_sat);
-        let second = a_dissat.sat_concat(0, c_sat);
-        let sat_data = first.fieldwise_max_opt(second);
-        let dissat_data = a_dissat.sat_concat(0, c_dissat);
+        let first = sat_concat(a.sat_data, 0, b.sat_data);
+        let second = sat_concat(a.dissat_data, 0, c.sat_data);
+        let sat_data = fieldwise_max_opt(first, second);
+        let dissat_data = sat_concat(a.dissat_data, 0, c.dissat_data);
         ExtData {
             pk_cost: a.pk_cost + b.pk_cost + c.pk_cost + 3,
             has_free_verify: false,
@@ -819,51 +792,49 @@ impl ExtData {
 fn verify_cost(free: bool) -> u64
     ensures { result ≡ num (not free) }
 {
-    if free { 0 } else { 1 }
+    !free as u64
 }
 
 // The larger of the first case under a 1 and the second under a 0.
-fn either_branch(l: Sat, r: Sat) -> Sat
+fn either_branch(l: Option<SatData>, r: Option<SatData>) -> Option<SatData>
     requires { SmallSat l × SmallSat r }
     ensures { result ≡ either_branch l r }
 {
-    let first = l.map_with_1();
-    let second = r.map_with_0();
-    first.fieldwise_max_opt(second)
+    let first = map_with_1(l);
+    let second = map_with_0(r);
+    fieldwise_max_opt(first, second)
 }
 
-impl Sat {
-    // Whether the operations of a satisfaction, executed or not, are few enough.
-    fn ops_within(self, static_ops: u64) -> bool
-        requires { SmallSat self × (static_ops < limit) }
-        ensures { result ≡ ops_within static_ops self }
-    {
-        match self {
-            Sat::None => false,
-            Sat::Some(x) => static_ops + x.max_exec_op_count <= MAX_OPS_PER_SCRIPT,
-        }
+// Whether the operations of a satisfaction, executed or not, are few enough.
+fn ops_within(static_ops: u64, sat: Option<SatData>) -> bool
+    requires { SmallSat sat × (static_ops < limit) }
+    ensures { result ≡ ops_within static_ops sat }
+{
+    match sat {
+        None => false,
+        Some(x) => static_ops + x.max_exec_op_count <= MAX_OPS_PER_SCRIPT,
     }
+}
 
-    // Whether the elements of a satisfaction, with those that execution adds, are few enough.
-    fn stack_within(self) -> bool
-        requires { SmallSat self }
-        ensures { result ≡ stack_within self }
-    {
-        match self {
-            Sat::None => true,
-            Sat::Some(x) => x.max_witness_stack_count + x.max_exec_stack_count <= MAX_STACK_SIZE,
-        }
+// Whether the elements of a satisfaction, with those that execution adds, are few enough.
+fn stack_within(sat: Option<SatData>) -> bool
+    requires { SmallSat sat }
+    ensures { result ≡ stack_within sat }
+{
+    match sat {
+        None => true,
+        Some(x) => x.max_witness_stack_count + x.max_exec_stack_count <= MAX_STACK_SIZE,
     }
+}
 
-    // Whether the elements of a satisfaction, with the witness script, are few enough.
-    fn items_within(self) -> bool
-        requires { SmallSat self }
-        ensures { result ≡ items_within self }
-    {
-        match self {
-            Sat::None => false,
-            Sat::Some(x) => x.max_witness_stack_count + 1 <= MAX_STANDARD_P2WSH_STACK_ITEMS,
-        }
+// Whether the elements of a satisfaction, with the witness script, are few enough.
+fn items_within(sat: Option<SatData>) -> bool
+    requires { SmallSat sat }
+    ensures { result ≡ items_within sat }
+{
+    match sat {
+        None => false,
+        Some(x) => x.max_witness_stack_count + 1 <= MAX_STANDARD_P2WSH_STACK_ITEMS,
     }
 }
 
@@ -871,18 +842,9 @@ impl Sat {
 fn global_consensus(context: Context, kind: u16, x: ExtData) -> bool
     ensures { result ≡ global_consensus context kind x }
 {
-    let pk_cost = x.pk_cost;
     match context {
-        Context::Segwitv0 => if kind == MULTI_A {
-            false
-        } else {
-            pk_cost <= MAX_SCRIPT_SIZE
-        },
-        Context::Tap => if kind == MULTI {
-            false
-        } else {
-            pk_cost <= MAX_BLOCK_WEIGHT
-        },
+        Context::Segwitv0 => kind != MULTI_A && x.pk_cost <= MAX_SCRIPT_SIZE,
+        Context::Tap => kind != MULTI && x.pk_cost <= MAX_BLOCK_WEIGHT,
     }
 }
 
@@ -890,9 +852,8 @@ fn global_consensus(context: Context, kind: u16, x: ExtData) -> bool
 fn global_policy(context: Context, x: ExtData) -> bool
     ensures { result ≡ global_policy context x }
 {
-    let pk_cost = x.pk_cost;
     match context {
-        Context::Segwitv0 => pk_cost <= MAX_STANDARD_P2WSH_SCRIPT_SIZE,
+        Context::Segwitv0 => x.pk_cost <= MAX_STANDARD_P2WSH_SCRIPT_SIZE,
         Context::Tap => true,
     }
 }
@@ -902,10 +863,9 @@ fn local_consensus(context: Context, x: ExtData) -> bool
     requires { Small x }
     ensures { result ≡ local_consensus context x }
 {
-    let sat = x.sat_data;
     match context {
-        Context::Segwitv0 => sat.ops_within(x.static_ops),
-        Context::Tap => sat.stack_within(),
+        Context::Segwitv0 => ops_within(x.static_ops, x.sat_data),
+        Context::Tap => stack_within(x.sat_data),
     }
 }
 
@@ -914,47 +874,35 @@ fn local_policy(context: Context, x: ExtData) -> bool
     requires { Small x }
     ensures { result ≡ local_policy context x }
 {
-    let sat = x.sat_data;
     match context {
-        Context::Segwitv0 => sat.items_within(),
+        Context::Segwitv0 => items_within(x.sat_data),
         Context::Tap => true,
     }
 }
 
 // Whether the context takes a fragment of this kind and these figures, whatever satisfies it.
+#[tactic(auto, unfolding(crate::specs::Validity::check_global_validity))]
 pub fn check_global_validity(context: Context, kind: u16, x: ExtData) -> bool
     ensures { result ≡ check_global_validity context kind x }
 {
-    if global_consensus(context, kind, x) {
-        global_policy(context, x)
-    } else {
-        false
-    }
+    global_consensus(context, kind, x) && global_policy(context, x)
 }
 
 // Whether the context takes a fragment of this kind and these figures, with what satisfies it.
+#[tactic(auto, unfolding(crate::specs::Validity::check_local_validity, crate::specs::Validity::check_global_validity))]
 pub fn check_local_validity(context: Context, kind: u16, x: ExtData) -> bool
     requires { Small x }
     ensures { result ≡ check_local_validity context kind x }
 {
-    if check_global_validity(context, kind, x) {
-        if local_consensus(context, x) {
-            local_policy(context, x)
-        } else {
-            false
-        }
-    } else {
-        false
-    }
+    check_global_validity(context, kind, x)
+        && local_consensus(context, x)
+        && local_policy(context, x)
 }
 
 // Whether `from_ast` takes a well-typed fragment of this kind and these figures.
+#[tactic(auto, unfolding(crate::specs::Validity::from_ast))]
 pub fn from_ast(context: Context, kind: u16, x: ExtData) -> bool
     ensures { result ≡ from_ast context kind x }
 {
-    if x.tree_height <= MAX_RECURSION_DEPTH {
-        check_global_validity(context, kind, x)
-    } else {
-        false
-    }
+    x.tree_height <= MAX_RECURSION_DEPTH && check_global_validity(context, kind, x)
 }

@@ -27,34 +27,27 @@ const NAME_TOO_LONG: i32 = 36;
 // The most bytes that the system's words for an error take, with its number behind them.
 const REASON_ROOM: usize = 280;
 
-// What reading a file to its end answers: how many bytes it has, that they fill all the room, or why a read failed.
+// Why a file was not read to its end: its bytes fill all the room, or a read failed.
 #[derive(Clone, Copy)]
-pub enum Reading {
-    Whole(usize),
+pub enum ReadError {
     TooLong,
     Failed(io::Error),
 }
 
-// What loading a file answers: how many bytes it has, or that the reason why there are none has been said.
-#[derive(Clone, Copy)]
-pub enum Loaded {
-    Bytes(usize),
-    Nothing,
-}
-
-// Reads to the end of a file. A file that fills the room is too long: whether anything is left of it is not asked.
-pub fn read_all<S: Read>(source: &mut S, room: &mut [u8]) -> Reading
+// Reads to the end of a file and answers how many bytes it has. A file that fills the room is too long: whether anything is left of it is not asked.
+pub fn read_all<S: Read>(source: &mut S, room: &mut [u8]) -> Result<usize, ReadError>
     ensures { Within (length room.new) result }
 {
     let mut done = 0;
+    // A `while`, since each read says how far it came.
     while done < room.len() {
         match source.read(&mut room[done..]) {
-            Ok(0) => return Reading::Whole(done),
+            Ok(0) => return Ok(done),
             Ok(n) => done += n,
-            Err(e) => return Reading::Failed(e),
+            Err(e) => return Err(ReadError::Failed(e)),
         }
     }
-    Reading::TooLong
+    Err(ReadError::TooLong)
 }
 
 // Says something on standard error.
@@ -100,10 +93,10 @@ pub fn word(rt: &impl Env, i: usize, room: &mut [u8]) -> io::Result<usize>
 
 // The text of a path.
 pub fn path_text(path: &[u8]) -> io::Result<&str> {
-    match str::from_utf8(path) {
-        Ok(text) => Ok(text),
-        Err(_) => Err(io::Error::new(ErrorKind::InvalidFilename, "not text in UTF-8")),
-    }
+    str::from_utf8(path).map_err(|_| io::Error::new(
+        ErrorKind::InvalidFilename,
+        "not text in UTF-8",
+    ))
 }
 
 // Opens the file of a path to read. A path with a byte 0 is no path.
@@ -123,21 +116,17 @@ fn path_word<'a>(rt: &impl Env, i: usize, room: &'a mut [u8; WORD_ROOM]) -> io::
 // Whether word i is a dash alone.
 fn is_dash(rt: &impl Env, i: usize) -> bool {
     let mut letters = [0u8; WORD_ROOM];
-    match path_word(rt, i, &mut letters) {
-        Ok(path) => path == "-",
-        Err(_) => false,
-    }
+    matches!(path_word(rt, i, &mut letters), Ok("-"))
 }
 
 // Whether a word before word i, and after the program's name, is a dash alone: standard input has been read to its end for it, and serves once.
 fn is_dash_before(rt: &impl Env, i: usize) -> bool {
-    let mut before = false;
     for j in 1..i {
         if is_dash(rt, j) {
-            before = true;
+            return true;
         }
     }
-    before
+    false
 }
 
 // Reads the whole file that is open. The path is its name where something is said of it, and `too_long` is what is said where it fills the room.
@@ -147,19 +136,19 @@ fn load_open<S: Read>(
     path: &str,
     too_long: &str,
     room: &mut [u8],
-) -> Loaded
+) -> Option<usize>
     ensures { Held (length room.new) result }
 {
     match read_all(source, room) {
-        Reading::Whole(n) => Loaded::Bytes(n),
-        Reading::TooLong => {
+        Ok(n) => Some(n),
+        Err(ReadError::TooLong) => {
             say(rt, path);
             say(rt, too_long);
-            Loaded::Nothing
+            None
         }
-        Reading::Failed(e) => {
+        Err(ReadError::Failed(e)) => {
             fail(rt, path, e);
-            Loaded::Nothing
+            None
         }
     }
 }
@@ -171,26 +160,31 @@ fn load_input<R: Env + Input + Eprint>(
     path: &str,
     too_long: &str,
     room: &mut [u8],
-) -> Loaded
+) -> Option<usize>
     ensures { Held (length room.new) result }
 {
     if is_dash_before(rt, i) {
         fail(rt, path, io::Error::from_raw_os_error(BAD_DESCRIPTOR));
-        return Loaded::Nothing;
+        return None;
     }
     let mut source = rt.reader();
     load_open(rt, &mut source, path, too_long, room)
 }
 
 // Reads the whole file of a path.
-fn load_path<R: Files + Eprint>(rt: &R, path: &str, too_long: &str, room: &mut [u8]) -> Loaded
+fn load_path<R: Files + Eprint>(
+    rt: &R,
+    path: &str,
+    too_long: &str,
+    room: &mut [u8],
+) -> Option<usize>
     ensures { Held (length room.new) result }
 {
     match open(rt, path) {
         Ok(mut source) => load_open(rt, &mut source, path, too_long, room),
         Err(e) => {
             fail(rt, path, e);
-            Loaded::Nothing
+            None
         }
     }
 }
@@ -203,7 +197,7 @@ fn load<R: Env + Files + Input + Eprint>(
     dash: bool,
     too_long: &str,
     room: &mut [u8],
-) -> Loaded
+) -> Option<usize>
     ensures { Held (length room.new) result }
 {
     if dash && path == "-" {
@@ -220,7 +214,7 @@ pub fn load_word<R: Env + Files + Input + Eprint>(
     dash: bool,
     too_long: &[u8],
     room: &mut [u8],
-) -> Loaded
+) -> Option<usize>
     ensures { Held (length room.new) result }
 {
     let mut letters = [0u8; WORD_ROOM];
@@ -228,7 +222,7 @@ pub fn load_word<R: Env + Files + Input + Eprint>(
         Ok(path) => load(rt, i, path, dash, words_of(too_long), room),
         Err(e) => {
             fail(rt, words_of(what), e);
-            Loaded::Nothing
+            None
         }
     }
 }

@@ -5,8 +5,6 @@ ghost use Rattle.std.specs.Prelude.{length};
 ghost use Rattle.files.specs.Rooms.{Held};
 
 use command_line::{INDEX_WORD, INPUT_WORD, OUTPUT_WORD};
-use files::Loaded;
-use numerals::Number32;
 use record_files::{ROOM, load_records};
 use std::rt::{Env, Files};
 
@@ -42,14 +40,14 @@ fn index_of<R: Env + Files + Print + Eprint>(rt: &R, context: u32, tree: &[u8]) 
 // Builds the index of the tree that the words name and shows the answer.
 pub fn index_tree<R: Env + Files + Input + Print + Eprint>(rt: &R, context: u32) {
     let mut tree = [0u8; ROOM];
-    let Loaded::Bytes(n) = load_records(rt, INPUT_WORD, &mut tree) else {
+    let Some(n) = load_records(rt, INPUT_WORD, &mut tree) else {
         return;
     };
     index_of(rt, context, &tree[..n]);
 }
 
 // Reads the index that the words name.
-fn load_index<R: Env + Files + Input + Eprint>(rt: &R, room: &mut [u8]) -> Loaded
+fn load_index<R: Env + Files + Input + Eprint>(rt: &R, room: &mut [u8]) -> Option<usize>
     ensures { Held (length room.new) result }
 {
     files::load_word(
@@ -100,7 +98,7 @@ fn find_by_index<R: Env + Files + Input + Print + Eprint>(
     byte: u32,
 ) {
     let mut index = [0u8; INDEX_FILE_ROOM];
-    let Loaded::Bytes(n) = load_index(rt, &mut index) else {
+    let Some(n) = load_index(rt, &mut index) else {
         return;
     };
     find_in(rt, context, tree, &index[..n], byte);
@@ -109,7 +107,7 @@ fn find_by_index<R: Env + Files + Input + Print + Eprint>(
 // Looks a byte up in the script of the tree that the words name.
 fn find_in_tree<R: Env + Files + Input + Print + Eprint>(rt: &R, context: u32, byte: u32) {
     let mut tree = [0u8; ROOM];
-    let Loaded::Bytes(n) = load_records(rt, INPUT_WORD, &mut tree) else {
+    let Some(n) = load_records(rt, INPUT_WORD, &mut tree) else {
         return;
     };
     find_by_index(rt, context, &tree[..n], byte);
@@ -117,7 +115,7 @@ fn find_in_tree<R: Env + Files + Input + Print + Eprint>(rt: &R, context: u32, b
 
 // Looks the byte up that the words name and shows the answer.
 pub fn find_byte<R: Env + Files + Input + Print + Eprint>(rt: &R, context: u32) {
-    if let Number32::Is(byte) = command_line::byte_given(rt) {
+    if let Some(byte) = command_line::byte_given(rt) {
         find_in_tree(rt, context, byte);
     }
 }

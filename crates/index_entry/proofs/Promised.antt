@@ -3,7 +3,7 @@ use Prim.Native.Nat.{ℕ, suc, ◌+◌, ◌-◌, ◌*◌, ◌≤◌, ◌<◌}
 use mathlib.Core.Bool.{Bool, true, false}
 use mathlib.Core.List.{List, ◌++◌}
 use mathlib.Core.Logic.{inl, inr}
-use mathlib.Core.Option.{Option, none, some}
+use Rattle.std.specs.Prelude.{None, Some, Result, Ok, Err}
 use mathlib.Core.Path.{◌≡◌, refl, sym, ap, subst, ◌∙◌}
 use native.Mathlib.Omega.{arith}
 use borrow.Author.Tests.{eq-eqb, ne_eqb, eqb-true, eqb-false}
@@ -11,16 +11,20 @@ use lib.Dec.{eqb}
 use lib.ListN.{length, set, take, drop, replicate, length-append, length-drop}
 use lib.Seq.{length-take-le}
 use Rattle.words.specs.Memory.{zeroed}
-use Rattle.types.specs.declared.TypeResult.TheVariants.{Ok}
 use Rattle.types.specs.TypeOrder.{pack}
 use Rattle.contexts.specs.declared.Context.{Context}
 use Rattle.trees.specs.Typing.{type_of}
 use Rattle.trees.specs.declared.Subtree.{Subtree}
 use Rattle.trees.specs.Reading.{Answer, refused, done, max_records}
-use Rattle.trees.specs.TreeCheck.{Typed, bad_context, context_of, check_of}
+use Rattle.trees.specs.TreeCheck.{Typed, context_of, check_of}
 use Rattle.trees.proofs.Theorem.{passes-well-typed-trees}
-use Rattle.claspwillow.specs.Promises.{CheckPromise}
-use Rattle.claspwillow.proofs.CheckLaws.{passed, refused_as}
+use Rattle.refusals.specs.declared.Refusal.{Refusal}
+use Rattle.refusals.specs.Numbers.{number_of}
+use Rattle.types.specs.declared.«Type».{«Type»}
+use Rattle.contexts.specs.declared.Context.TheVariants.{Segwitv0, Tap}
+use Rattle.trees.specs.Checked.{type_only}
+use Rattle.claspwillow.specs.Results.{number_in}
+use Rattle.claspwillow.proofs.CheckLaws.{passed-as, refused-by}
 use Rattle.walk.specs.TreeRecords.{fragment_at, Written}
 use Rattle.walk.specs.Nodes.{Placed}
 use Rattle.walk.specs.Nodes as Nodes
@@ -29,11 +33,10 @@ use Rattle.index_places.specs.Places.{size_at, Stands}
 use Rattle.index_places.specs.Typed.{type_or, subtree_of}
 use Rattle.index_places.proofs.Stands.{parent_of}
 use Rattle.index_places.proofs.Typed.{well_typed}
-use Rattle.index_entry.specs.declared.Given.{Given}
 use Rattle.index_entry.specs.Index.{EntryOf, IsIndex, output_too_small, tree_in, Indexed, IndexPromise}
 use Rattle.index_memory.specs.Memory.{work_words, size_in, first_in, subtree_in, entry_in, index_in}
 use Rattle.index_entry.specs.Index as Index
-use Rattle.index_entry.specs.Building.{Checked, Scanned, Known, Filling, Sized, Rooted, Giving, Built, wrong_length, Outcome, fits, too_small, Answered, passes, refuses}
+use Rattle.index_entry.specs.Building.{Checked, Scanned, Known, Filling, Sized, Rooted, Giving, Built, Passing, checks, fails, Outcome, fits, too_small, Answered, passes, refuses, bytes_in}
 use Rattle.index_memory.proofs.Words.{size-kept, subtree-kept}
 use Rattle.index_entry.proofs.Placing.{known-rooted, rooted}
 use Rattle.index_memory.proofs.IndexBytes.{entries-long}
@@ -136,13 +139,12 @@ module _ {c : Context} {tree work : List ℕ} {count : ℕ} (built : Built c tre
   index-long = entries-long (entry_in work) count
 
   pub index-fits : {out left : List ℕ} {n : ℕ} → n ≡ 16 * count → 16 * count ≤ length out → left ≡ index_in work count ++ drop (16 * count) out
-      → Outcome c tree out left (record { number = 0; bytes = n })
+      → Outcome c tree out left (Ok n)
   index-fits {out} {left} {n} s h e =
-      fits built.counts is-index (omega (arith, index-long, h)) (e ∙ ap (λ (m : ℕ). index_in work count ++ drop m out) (sym index-long))
-      (ap (λ (m : ℕ). record { number = 0; bytes = m }) (s ∙ sym index-long))
+      fits built.counts is-index (omega (arith, index-long, h)) (e ∙ ap (λ (m : ℕ). index_in work count ++ drop m out) (sym index-long)) (s ∙ sym index-long)
 
-  pub index-too-long : {out : List ℕ} → length out < 16 * count → Outcome c tree out out (record { number = 13; bytes = 0 })
-  index-too-long h = too_small built.counts h refl refl
+  pub index-too-long : {out : List ℕ} → length out < 16 * count → Outcome c tree out out (Err Refusal.OutputTooSmall)
+  index-too-long h = too_small built.counts h refl
 
 -- ---- work memory, of which the check takes the first part
 
@@ -154,93 +156,86 @@ joined-long w p l k = length-append p (drop 4096 w) ∙ omega (arith, l, k, leng
 
 -- ---- the check
 
-no-context : (context : ℕ) (tree : List ℕ) → context_of context ≡ none → check_of context tree max_records ≡ refused bad_context
-unfolding check_of
-no-context context tree e = rw e
+no-context : (context : ℕ) → 2 ≤ context → context_of context ≡ None
+no-context context h = rw (ne_eqb context 0 (λ e. omega arith), ne_eqb context 1 (λ e. omega arith))
 
-pub has-context : (context : ℕ) (tree : List ℕ) {x : Typed} → check_of context tree max_records ≡ done x → (c : Context) × (context_of context ≡ some c)
-has-context context tree {x} e = by-context (context_of context) refl
+some-context : (context : ℕ) → context < 2 → (c : Context) × (context_of context ≡ Some c)
+some-context context h = by-number (eqb context 0) refl
   where
-    by-context : (o : Option Context) → context_of context ≡ o → (c : Context) × (context_of context ≡ some c)
-    by-context (some c) k = (c, k)
-    by-context none k =
-        let same : ◌≡◌ {A = Answer Typed} (refused bad_context) (done x) = sym (no-context context tree k) ∙ e in
-        absurd (let z : ◌≡◌ {A = ℕ} 0 1 = cc (same) in omega arith)
+    second : context ≡ 1 → (c : Context) × (context_of context ≡ Some c)
+    second e = (Tap, rw e)
 
-module _ {context : ℕ} {tree work : List ℕ} {number ty : ℕ} {after : List ℕ} (promise : CheckPromise context tree work number ty after)
-    (room : length work ≡ max_records) where
-  pub tree-passes : number ≡ 0 → (x : Typed) × (check_of context tree max_records ≡ done x)
-  tree-passes z =
-      let p = passed context tree work promise.gives z in
-      (p.typed, sym (ap (check_of context tree) room) ∙ p.passes)
+    by-number : (b : Bool) → eqb context 0 ≡ b → (c : Context) × (context_of context ≡ Some c)
+    by-number true t =
+        let first = eqb-true context 0 t in
+        (Segwitv0, rw first)
+    by-number false t = second (omega (arith, eqb-false context 0 t))
 
-  pub tree-checked : number ≡ 0 → {c₀ : Context} → ((c : Context) → context_of context ≡ some c → c₀ ≡ c) → Checked c₀ tree
-  tree-checked z {c₀} is =
-      let p = tree-passes z in
-      let k = has-context context tree p.1 in
-      let known = (passes-well-typed-trees context k.0 tree p.0 k.1).0 p.1 in
-      let typed : type_of c₀ p.0.tree ≡ Ok p.0.type = ap (λ (c : Context). type_of c p.0.tree) (is k.0 k.1) ∙ known.1 in
+module _ (context : ℕ) (tree work : List ℕ) where
+  pub of-no-context : 2 ≤ context → Passing context tree work (Err Refusal.BadContext)
+  unfolding tree_in
+  of-no-context h = fails (rw (no-context context h))
+
+  pub of-other-length : context < 2 → (length work ≡ work_words → ⊥) → Passing context tree work (Err Refusal.BadWork)
+  unfolding tree_in
+  of-other-length h l =
+      let c = some-context context h in
+      fails (rw (c.1, ne_eqb (length work) work_words l))
+
+  module _ (h : context < 2) (room : length work ≡ work_words) where
+    tree-in : {a : Answer Typed} → check_of context tree max_records ≡ a → tree_in context tree work ≡ a
+    unfolding tree_in
+    tree-in {a} e =
+        let c = some-context context h in
+        rw (c.1, eq-eqb (length work) work_words room) e
+
+    whole : {a : Answer Typed} → check_of context tree (length (take 4096 work)) ≡ a → check_of context tree max_records ≡ a
+    whole e = sym (ap (check_of context tree) (first-long work room)) ∙ e
+
+    pub of-refused : {r : Refusal} → refused (number_of r) ≡ type_only (check_of context tree (length (take 4096 work))) → Passing context tree work (Err r)
+    of-refused e = fails (tree-in (whole (refused-by context tree (take 4096 work) e)))
+
+    pub of-passed : {t : «Type»} → done t ≡ type_only (check_of context tree (length (take 4096 work))) → {c₀ : Context}
+        → ((c : Context) → context_of context ≡ Some c → c₀ ≡ c) → Passing context tree work (Ok c₀)
+    of-passed e {c₀} is =
+        let p = passed-as context tree (take 4096 work) e in
+        let same = is p.its-context p.context-is in
+        checks (p.context-is ∙ ap Some (sym same)) room (whole p.passes) (tree-in (whole p.passes))
+
+module _ {context : ℕ} {tree work : List ℕ} {c : Context} where
+  pub its-room : Passing context tree work (Ok c) → length work ≡ work_words
+  its-room (checks k room e t) = room
+
+  pub tree-checked : Passing context tree work (Ok c) → Checked c tree
+  tree-checked (checks {x = x} k room e t) =
+      let known = (passes-well-typed-trees context c tree x k).0 e in
       record {
-        root = p.0.tree;
-        rows = rows context tree max_records p.0 p.1;
-        typed = typed ∙ ap Ok (sym (ap type_or typed));
+        root = x.tree;
+        rows = rows context tree max_records x e;
+        typed = known.1 ∙ ap Ok (sym (ap type_or known.1));
         low = known.2;
       }
 
-  pub answered : number ≡ 0 → {c₀ : Context} → ((c : Context) → context_of context ≡ some c → c₀ ≡ c) → {out left : List ℕ} {r : Given}
-      → Outcome c₀ tree out left r → Answered context tree out left r
-  answered z {c₀} is {out} {left} {r} o =
-      let p = tree-passes z in
-      let k = has-context context tree p.1 in
-      passes k.1 p.1 (subst (λ (c : Context). Outcome c tree out left r) (is k.0 k.1) o)
+  pub answered : Passing context tree work (Ok c) → {out left : List ℕ} {r : Result ℕ Refusal} → Outcome c tree out left r
+      → Answered context tree out work left r
+  answered (checks k room e t) o = passes k e t o
 
-  pub answered-refused : (number ≡ 0 → ⊥) → {out : List ℕ} → Answered context tree out out (record { number = number; bytes = 0 })
-  answered-refused z = refuses (sym (ap (check_of context tree) room) ∙ refused_as context tree work promise.gives z) refl refl
+pub answered-refused : {context : ℕ} {tree work : List ℕ} {r : Refusal} → Passing context tree work (Err r) → {out left : List ℕ} → left ≡ out
+    → Answered context tree out work left (Err r)
+answered-refused (fails e) w = refuses e w
 
--- ---- what the entry comes to
+-- ---- the entry keeps its promise
 
-module _ (context : ℕ) (tree out work : List ℕ) where
-  module _ (room : length work ≡ work_words) where
-    pub tree-in : {a : Answer Typed} → check_of context tree max_records ≡ a → tree_in context tree work ≡ a
-    unfolding tree_in
-    tree-in {a} e = by-context (context_of context) refl
-      where
-        by-context : (o : Option Context) → context_of context ≡ o → tree_in context tree work ≡ a
-        by-context (some c) k = rw (k, eq-eqb (length work) work_words room, e)
-        by-context none k = rw k (sym (no-context context tree k) ∙ e)
+results : (context : ℕ) (tree out work : List ℕ) {left : List ℕ} {r : Result ℕ Refusal} → Answered context tree out work left r
+    → Indexed context tree out (tree_in context tree work) (number_in r) left (bytes_in r)
+results context tree out work (passes {c} {x} k e t (fits {index = index} counts is l w n)) =
+    let own = rows context tree max_records x e in
+    rw (t, w, n) (Index.fits k own (subst (λ (n : ℕ). IsIndex c tree n index) (counts x.tree own) is) l)
+results context tree out work (passes {c} {x} k e t (too_small counts l w)) =
+    let own = rows context tree max_records x e in
+    rw (t, w) (Index.too_small own (omega (arith, l, counts x.tree own)))
+results context tree out work (refuses {r} t w) = rw (t, w) (Index.refuses (number_of r))
 
-    abbrev Gives : Answer Typed → List ℕ → Given → Type 0
-    Gives t left g = Indexed context tree out t g.number left g.bytes
-
-    results : {left : List ℕ} {r : Given} → Answered context tree out left r → Gives (tree_in context tree work) left r
-    results {left} {r} (passes {c} {x} k e (fits {count} {index} counts is l w g)) =
-        let own = rows context tree max_records x e in
-        let its : Gives (done x) (index ++ drop (length index) out) (record { number = 0; bytes = length index }) =
-        Index.fits k own (subst (λ (n : ℕ). IsIndex c tree n index) (counts x.tree own) is) l in
-        subst (λ (t : Answer Typed). Gives t left r) (sym (tree-in e))
-        (subst (λ (g : Given). Gives (done x) left g) (sym g) (subst (λ (m : List ℕ). Gives (done x) m (record { number = 0; bytes = length index })) (sym w) its))
-    results {left} {r} (passes {c} {x} k e (too_small {count} counts l w g)) =
-        let own = rows context tree max_records x e in
-        let its : Gives (done x) out (record { number = output_too_small; bytes = 0 }) = Index.too_small own (omega (arith, l, counts x.tree own)) in
-        subst (λ (t : Answer Typed). Gives t left r) (sym (tree-in e))
-        (subst (λ (g : Given). Gives (done x) left g) (sym g) (subst (λ (m : List ℕ). Gives (done x) m (record { number = output_too_small; bytes = 0 })) (sym w) its))
-    results {left} {r} (refuses {n} e w g) =
-        let its : Gives (refused n) out (record { number = n; bytes = 0 }) = Index.refuses n in
-        subst (λ (t : Answer Typed). Gives t left r) (sym (tree-in e))
-        (subst (λ (g : Given). Gives (refused n) left g) (sym g) (subst (λ (m : List ℕ). Gives (refused n) m (record { number = n; bytes = 0 })) (sym w) its))
-
-    pub of_length : {left : List ℕ} {r : Given} (worked : List ℕ) {after : List ℕ} → Answered context tree out left r → length worked ≡ length work
-        → after ≡ zeroed worked → IndexPromise context tree out work r.number left r.bytes after
-    of_length worked a e c = record { gives = results a; clears = c ∙ ap (λ (n : ℕ). replicate n 0) e }
-
-  pub wrong-refused : (length work ≡ work_words → ⊥) → tree_in context tree work ≡ refused (wrong_length context)
-  unfolding tree_in
-  wrong-refused h = by-context (context_of context) refl
-    where
-      by-context : (o : Option Context) → context_of context ≡ o → tree_in context tree work ≡ refused (wrong_length context)
-      by-context (some c) k = rw (k, ne_eqb (length work) work_words h)
-      by-context none k = rw k
-
-  pub of-other-length : {n : ℕ} {after : List ℕ} → (length work ≡ work_words → ⊥) → n ≡ wrong_length context → after ≡ zeroed work
-      → IndexPromise context tree out work n out 0 after
-  of-other-length {n} h e c = record { gives = rw (wrong-refused h, e) (Index.refuses (wrong_length context)); clears = c }
+pub promised : (context : ℕ) (tree out work worked : List ℕ) {left after : List ℕ} {r : Result ℕ Refusal} → Answered context tree out work left r
+    → length worked ≡ length work → after ≡ zeroed worked → IndexPromise context tree out work (number_in r) left (bytes_in r) after
+promised context tree out work worked a e c = record { gives = results context tree out work a; clears = c ∙ ap (λ (n : ℕ). replicate n 0) e }

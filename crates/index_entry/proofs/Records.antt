@@ -1,4 +1,6 @@
 -- A record's size, type and height are read from its bytes and its children's words. Assumes nothing.
+use Rattle.correctness.specs.declared.TypeError.{TypeError}
+use Rattle.std.specs.Prelude.{Result, Ok, Err}
 use Prim.Native.Nat.{ℕ, zero, suc, ◌+◌, ◌≤◌, ◌<◌}
 use mathlib.Core.Bool.{Bool, true, false}
 use mathlib.Core.List.{List, [], ◌∷◌, ◌++◌, map}
@@ -16,8 +18,6 @@ use Rattle.records.specs.RecordForm.{kind_of, fragment_payload}
 use Rattle.records.specs.Answers.{parts_of}
 use Rattle.records.proofs.Arities.{Found, own-children, few-children, rule-needs, same-children}
 use Rattle.types.specs.declared.«Type».{«Type»}
-use Rattle.types.specs.declared.TypeResult.{TypeResult}
-use Rattle.types.specs.declared.TypeResult.TheVariants.{Ok, IllTyped}
 use Rattle.contexts.specs.declared.Context.{Context}
 use Rattle.trees.specs.Height.{max_height}
 use Rattle.trees.specs.Reading.{Answer, refused, done, ill_typed}
@@ -123,7 +123,7 @@ module _ {bytes work : List ℕ} (readable : Readable bytes work) where
       take-map (suc m) [] = refl
       take-map (suc m) (x ∷ xs) = rw (take-map m xs)
 
-      module _ (c : Context) {types : List «Type»} (t : types ≡ types_of children) {q : ℕ} (o : q ≡ parts.k) (r : TypeResult)
+      module _ (c : Context) {types : List «Type»} (t : types ≡ types_of children) {q : ℕ} (o : q ≡ parts.k) (r : Result «Type» TypeError)
           (e : rule_of kind c q (take (arity kind parts.count) types) ≡ answered r) where
         by-rule : rule_of (node_of bytes).kind c (node_of bytes).k (types_of (subtrees_from bytes work)) ≡ answered r
         by-rule =
@@ -134,8 +134,8 @@ module _ {bytes work : List ℕ} (readable : Readable bytes work) where
             ∙ ap (λ (i : ℕ). rule_of (kind_of bytes) c i (take (arity kind parts.count) types)) its-k
             ∙ ap (rule_of (kind_of bytes) c (node_of bytes).k) same) ∙ e
 
-        pub ill-ruled : (x : Subtree) → r ≡ IllTyped → Ruled c bytes work x
-        ill-ruled x i =
+        pub ill-ruled : (x : Subtree) (why : TypeError) → r ≡ Err why → Ruled c bytes work x
+        ill-ruled x TypeError.IllTyped i =
             record {
               is = λ t given low. absurd (let same : ◌≡◌ {A = Answer «Type»} (done t) (refused ill_typed) = sym given ∙ by-rule ∙ ap answered i in
                   let z : ◌≡◌ {A = ℕ} 0 1 = cc (same) in omega arith);

@@ -1,24 +1,23 @@
 -- What the functions that build an index ask and leave, for the inner contracts: document 02, R-11.
-use Rattle.std.specs.Prelude.{ℕ, suc, ◌+◌, ◌*◌, ◌-◌, ◌≤◌, ◌<◌, Bool, false, List, ◌++◌, ◌⊎◌, ◌≡◌, length, get_or, drop}
-use Rattle.std.proofs.Math.Option.{Option, none, some}
+use Rattle.std.specs.Prelude.{ℕ, suc, ◌+◌, ◌*◌, ◌-◌, ◌≤◌, ◌<◌, Bool, false, List, ◌++◌, ◌⊎◌, ◌≡◌, length, get_or, drop, Some, Result, Ok, Err}
+use Rattle.refusals.specs.declared.Refusal.{Refusal}
+use Rattle.refusals.specs.Numbers.{number_of}
 use Rattle.types.specs.declared.«Type».{«Type»}
 use Rattle.contexts.specs.declared.Context.{Context}
 use Rattle.trees.specs.Fragment.{Fragment}
 use Rattle.trees.specs.Typing.{type_of}
-use Rattle.types.specs.declared.TypeResult.TheVariants.{Ok}
 use Rattle.trees.specs.Height.{max_height, height_of}
 use Rattle.trees.specs.Reading.{refused, done, max_records}
 use Rattle.trees.specs.Rules.{rule_of, types_of, tallest}
-use Rattle.trees.specs.TreeCheck.{Typed, bad_context, bad_work, context_of, check_of}
+use Rattle.trees.specs.TreeCheck.{Typed, context_of, check_of}
 use Rattle.trees.specs.declared.Subtree.{Subtree}
 use Rattle.walk.specs.TreeRecords.{fragment_at, TreeRecords}
 use Rattle.walk.specs.Nodes.{node_of, AllPlaced}
 use Rattle.script_entry.specs.Pieces.{place}
 use Rattle.index_places.specs.Places.{kids_at, kind_at, kid, ahead, size_at, Stands}
 use Rattle.index_places.specs.Typed.{type_or, subtree_of}
-use Rattle.index_entry.specs.declared.Given.{Given}
-use Rattle.index_entry.specs.Index.{EntryOf, IsIndex, output_too_small}
-use Rattle.index_memory.specs.Memory.{size_in, first_in, subtree_in, entry_in}
+use Rattle.index_entry.specs.Index.{EntryOf, IsIndex, tree_in}
+use Rattle.index_memory.specs.Memory.{work_words, size_in, first_in, subtree_in, entry_in}
 use Rattle.index_entry.specs.Memory.{subtrees_from}
 
 -- the words of a record's first n children, in the script's order, are there
@@ -115,23 +114,26 @@ pub record Built (c : Context) (tree work : List ℕ) (count : ℕ) : Type 0 whe
 
 -- ---- the entry's answers
 
--- work memory of another length: a context that is none comes first
-abbrev pub wrong_with : Option Context → ℕ
-wrong_with (some c) = bad_work
-wrong_with none = bad_context
+-- a tree that the check passes, or the refusal
+pub data Passing (context : ℕ) (tree work : List ℕ) : Result Context Refusal → Type 0 where
+  checks : {c : Context} {x : Typed} → context_of context ≡ Some c → length work ≡ work_words → check_of context tree max_records ≡ done x
+      → tree_in context tree work ≡ done x → Passing context tree work (Ok c)
+  fails : {r : Refusal} → tree_in context tree work ≡ refused (number_of r) → Passing context tree work (Err r)
 
-abbrev pub wrong_length : (context : ℕ) → ℕ
-wrong_length context = wrong_with (context_of context)
+-- the bytes written, 0 on a refusal
+abbrev pub bytes_in : Result ℕ Refusal → ℕ
+bytes_in (Ok n) = n
+bytes_in (Err r) = 0
 
 -- a tree that the check passed has its index in the output, where it fits
-pub data Outcome (c : Context) (tree out left : List ℕ) (r : Given) : Type 0 where
-  fits : {count : ℕ} {index : List ℕ} → ((f : Fragment) (rows : TreeRecords tree f) → count ≡ rows.count) → IsIndex c tree count index
-      → length index ≤ length out → left ≡ index ++ drop (length index) out → r ≡ record { number = 0; bytes = length index } → Outcome c tree out left r
+pub data Outcome (c : Context) (tree out left : List ℕ) : Result ℕ Refusal → Type 0 where
+  fits : {count n : ℕ} {index : List ℕ} → ((f : Fragment) (rows : TreeRecords tree f) → count ≡ rows.count) → IsIndex c tree count index
+      → length index ≤ length out → left ≡ index ++ drop (length index) out → n ≡ length index → Outcome c tree out left (Ok n)
   too_small : {count : ℕ} → ((f : Fragment) (rows : TreeRecords tree f) → count ≡ rows.count) → length out < 16 * count
-      → left ≡ out → r ≡ record { number = output_too_small; bytes = 0 } → Outcome c tree out left r
+      → left ≡ out → Outcome c tree out left (Err Refusal.OutputTooSmall)
 
--- and one that it refused its number
-pub data Answered (context : ℕ) (tree out left : List ℕ) (r : Given) : Type 0 where
-  passes : {c : Context} {x : Typed} → context_of context ≡ some c → check_of context tree max_records ≡ done x → Outcome c tree out left r
-      → Answered context tree out left r
-  refuses : {n : ℕ} → check_of context tree max_records ≡ refused n → left ≡ out → r ≡ record { number = n; bytes = 0 } → Answered context tree out left r
+-- and one that it refused its refusal
+pub data Answered (context : ℕ) (tree out work left : List ℕ) : Result ℕ Refusal → Type 0 where
+  passes : {c : Context} {x : Typed} {r : Result ℕ Refusal} → context_of context ≡ Some c → check_of context tree max_records ≡ done x
+      → tree_in context tree work ≡ done x → Outcome c tree out left r → Answered context tree out work left r
+  refuses : {r : Refusal} → tree_in context tree work ≡ refused (number_of r) → left ≡ out → Answered context tree out work left (Err r)

@@ -1,11 +1,9 @@
 -- What the entries give: document 02, R-11. A context or work memory that is none of its own, then the tree, are refused as the tree check does. The index
 -- of a tree has an entry of 16 bytes for each record, record 0 first: the packed type, the height, the first byte and the length in the script, a u32
 -- each. Too little room for it is 13. An index that is not the tree's is 20; else a byte is looked up.
-use Rattle.std.specs.Prelude.{ℕ, ◌-◌, ◌*◌, ◌≤◌, ◌<◌, cond, List, ◌++◌, ◌≡◌, eqb, length, drop}
-use Rattle.std.proofs.Math.Option.{Option, none, some}
+use Rattle.std.specs.Prelude.{ℕ, ◌-◌, ◌*◌, ◌≤◌, ◌<◌, cond, List, ◌++◌, ◌≡◌, eqb, length, drop, Option, None, Some, Ok}
 use Rattle.words.specs.Memory.{zeroed}
 use Rattle.types.specs.declared.«Type».{«Type»}
-use Rattle.types.specs.declared.TypeResult.TheVariants.{Ok}
 use Rattle.types.specs.TypeOrder.{pack}
 use Rattle.contexts.specs.declared.Context.{Context}
 use Rattle.trees.specs.Typing.{type_of}
@@ -26,7 +24,7 @@ not_its_index = 20
 
 -- work memory has its one length, four words for each record that a tree may have
 abbrev pub work_of : ℕ → Option ℕ
-work_of words = cond (eqb words work_words) (some words) none
+work_of words = cond (eqb words work_words) (Some words) None
 
 -- the tree that an entry reads, or the number of its refusal
 unfoldable pub tree_in : (context : ℕ) → (tree work : List ℕ) → Answer Typed
@@ -57,7 +55,7 @@ pub record IsIndex (c : Context) (tree : List ℕ) (count : ℕ) (bytes : List �
 -- A refusal has its number, no bytes, and the output as it was; an index that fits has number 0, stands in the output's first bytes, and is counted.
 pub data Indexed (context : ℕ) (tree out : List ℕ) : Answer Typed → (number : ℕ) (left : List ℕ) (bytes : ℕ) → Type 0 where
   refuses : (n : ℕ) → Indexed context tree out (refused n) n out 0
-  fits : {c : Context} {x : Typed} {index : List ℕ} → context_of context ≡ some c → (rows : TreeRecords tree x.tree)
+  fits : {c : Context} {x : Typed} {index : List ℕ} → context_of context ≡ Some c → (rows : TreeRecords tree x.tree)
       → IsIndex c tree rows.count index → length index ≤ length out → Indexed context tree out (done x) 0 (index ++ drop (length index) out) (length index)
   too_small : {x : Typed} → (rows : TreeRecords tree x.tree) → length out < 16 * rows.count → Indexed context tree out (done x) output_too_small out 0
 
@@ -75,9 +73,9 @@ pub data Looked (c : Context) (tree : List ℕ) (count at : ℕ) : (found it : �
 
 pub data Found (context : ℕ) (tree index : List ℕ) (at : ℕ) : Answer Typed → (number found it : ℕ) → Type 0 where
   turned_down : (n : ℕ) → Found context tree index at (refused n) n 0 0
-  looks : {c : Context} {x : Typed} {found it : ℕ} → context_of context ≡ some c → (rows : TreeRecords tree x.tree) → IsIndex c tree rows.count index
+  looks : {c : Context} {x : Typed} {found it : ℕ} → context_of context ≡ Some c → (rows : TreeRecords tree x.tree) → IsIndex c tree rows.count index
       → Looked c tree rows.count at found it → Found context tree index at (done x) 0 found it
-  another : {c : Context} {x : Typed} → context_of context ≡ some c → (rows : TreeRecords tree x.tree) → (IsIndex c tree rows.count index → ⊥)
+  another : {c : Context} {x : Typed} → context_of context ≡ Some c → (rows : TreeRecords tree x.tree) → (IsIndex c tree rows.count index → ⊥)
       → Found context tree index at (done x) not_its_index 0 0
 
 pub record FindPromise (context : ℕ) (tree index : List ℕ) (at : ℕ) (work : List ℕ) (number found it : ℕ) (after : List ℕ) : Type 0 where

@@ -1,6 +1,5 @@
 -- What work memory is to hold of each record, from its bytes and its children's words.
-use Rattle.std.specs.Prelude.{ℕ, ◌+◌, ◌*◌, ◌<◌, Bool, true, false, cond, List, map, ◌≡◌, eqb, length, get_or, set, take}
-use Rattle.std.proofs.Math.Option.{some}
+use Rattle.std.specs.Prelude.{ℕ, ◌+◌, ◌*◌, ◌<◌, Bool, true, false, cond, List, map, ◌≡◌, eqb, length, get_or, set, take, Some}
 use Rattle.records.specs.Payloads.{Payload, children_of}
 use Rattle.records.specs.RecordForm.{fragment_payload}
 use Rattle.contexts.specs.declared.Context.{Context}
@@ -19,7 +18,7 @@ use Rattle.index_places.specs.Typed.{subtree_of}
 -- a record of the form, whose children's words are there
 pub record Readable (bytes work : List ℕ) : Type 0 where
   pub payload : Payload
-  pub fits : fragment_payload bytes ≡ some payload
+  pub fits : fragment_payload bytes ≡ Some payload
   pub inside : (j : ℕ) → j < length (children_of payload) → get_or (children_of payload) j 0 < 4096
   pub room : length work ≡ 16384
 

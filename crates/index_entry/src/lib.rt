@@ -13,40 +13,16 @@ ghost use Rattle.index_memory.specs.Memory.{work_words, size_in, subtree_in};
 ghost use Rattle.index_entry.specs.Index.{IndexPromise, FindPromise};
 ghost use Rattle.index_entry.specs.Memory.{Readable, size_from, fill_one};
 ghost use Rattle.trees.specs.Height.{max_height};
-ghost use Rattle.index_entry.specs.Building.{Children, Ruled, Fill, Scanned, Filling, Gives, Gave, Rooted, Giving, Checked, Built, wrong_length, Outcome, Answered};
+ghost use Rattle.index_entry.specs.Building.{Children, Ruled, Fill, Scanned, Filling, Gives, Gave, Rooted, Giving, Checked, Passing, Built, Outcome, Answered};
 ghost use Rattle.index_entry.specs.Looking.{FindOutcome, FindAnswered};
 
 use contexts::Context;
+use refusals::Refusal;
 use trees::Subtree;
-use types::{Type, TypeResult};
-
-// Document 01's numbers of a context that is none, and of work memory of another length; document 02's of an output that is too small, and of
-// an index that is not the tree's.
-const BAD_CONTEXT: u32 = 1;
-
-const BAD_WORK: u32 = 2;
-
-const OUTPUT_TOO_SMALL: u32 = 13;
-
-const NOT_ITS_INDEX: u32 = 20;
+use types::Type;
 
 // The one length of work memory: four words a record, in four parts. The first has where the records begin; the tree check takes it before.
 const WORK_WORDS: usize = 16384;
-
-// The number of an outcome and the bytes that it wrote.
-#[derive(Clone, Copy)]
-pub struct Given {
-    pub number: u32,
-    pub bytes: u64,
-}
-
-// The number of an outcome, whether a fragment was found, and its record.
-#[derive(Clone, Copy)]
-pub struct Told {
-    pub number: u32,
-    pub found: u32,
-    pub it: u32,
-}
 
 // The bytes of a record ahead of its child number n in the script, from the sizes of its children.
 fn ahead(work: &[u64], kind: u16, children: [u16; 16], verified: bool, n: usize) -> u64
@@ -54,16 +30,14 @@ fn ahead(work: &[u64], kind: u16, children: [u16; 16], verified: bool, n: usize)
     ensures { (result ≡ ahead kind verified (λ w m. size_in work.now w (get_or children m 0)) n) × (result ≤ 3 + n * 4294967297) }
 {
     let mut at = index_sizes::front_size(kind);
-    let mut j = 0;
-    while j < n {
+    for j in 0..n {
         let child = children[script_entry::place(kind, j)] as usize;
         let size = index_memory::size_at(
             work,
             child,
             script_entry::child_verified(kind, j, verified),
         );
-        at = at + (size + index_sizes::after_size(kind, j));
-        j += 1;
+        at += size + index_sizes::after_size(kind, j);
     }
     at
 }
@@ -93,11 +67,8 @@ fn load(work: &[u64], numbers: [u16; 16], n: usize) -> [Subtree; 16]
         height: 0,
     };
     let mut out = [none; 16];
-    let mut j = 0;
-    while j < n {
-        let number = numbers[j] as usize;
-        out[j] = index_memory::subtree_at(work, number);
-        j += 1;
+    for j in 0..n {
+        out[j] = index_memory::subtree_at(work, numbers[j] as usize);
     }
     out
 }
@@ -119,8 +90,7 @@ fn record_subtree(context: Context, bytes: &[u8], work: &[u64]) -> Subtree
         ty: Type::of_false(),
         height: 0,
     };
-    let TypeResult::Ok(ty) = trees::rule_of(context, kind, k, count, trees::types_of(children))
-    else {
+    let Ok(ty) = trees::rule_of(context, kind, k, count, trees::types_of(children)) else {
         return none;
     };
     let below = trees::tallest(children, n);
@@ -153,10 +123,8 @@ fn fill(context: Context, tree: &[u8], work: &mut [u64], count: usize)
     requires { Scanned context tree.now work.old count }
     ensures { Filling context tree.now work.old work.new count }
 {
-    let mut i = 0;
-    while i < count {
+    for i in 0..count {
         fill_record(context, tree, work, i);
-        i += 1;
     }
 }
 
@@ -170,12 +138,10 @@ fn give_places(tree: &[u8], work: &mut [u64], i: usize)
     let kind = node.kind;
     let n = node.n;
     let children = node.children;
-    let mut j = 0;
-    while j < n {
+    for j in 0..n {
         let child = children[script_entry::place(kind, j)] as usize;
         let before = ahead(work, kind, children, false, j);
         work[index_memory::PLACES + child] = at + before;
-        j += 1;
     }
 }
 
@@ -192,9 +158,7 @@ fn give_all(tree: &[u8], work: &mut [u64], count: usize)
     requires { Rooted tree.now work.old count }
     ensures { Giving tree.now work.old work.new count 0 }
 {
-    let mut i = count;
-    while 0 < i {
-        i -= 1;
+    for i in (0..count).rev() {
         give_places(tree, work, i);
     }
 }
@@ -211,55 +175,48 @@ fn build(context: Context, tree: &[u8], work: &mut [u64]) -> usize
     count
 }
 
+// The context that has the number, where the tree passes the check in it.
+fn checked(context: u32, tree: &[u8], work: &mut [u64]) -> Result<Context, Refusal>
+    ensures passing { Passing context tree.now work.old result }
+    ensures work_len_unchanged { length work.new ≡ length work.old }
+{
+    if 2 <= context {
+        return Err(Refusal::BadContext);
+    }
+    if work.len() != WORK_WORDS {
+        return Err(Refusal::BadWork);
+    }
+    trees::check(context, tree, &mut work[0..index_memory::SIZES])?;
+    Ok(claspwillow::context_of(context))
+}
+
 // The index of a tree that the check passed.
-fn index_in(context: Context, tree: &[u8], out: &mut [u8], work: &mut [u64]) -> Given
+fn index_in(
+    context: Context,
+    tree: &[u8],
+    out: &mut [u8],
+    work: &mut [u64],
+) -> Result<usize, Refusal>
     requires { Checked context tree.now × (length work.old ≡ work_words) }
     ensures outcome { Outcome context tree.now out.old out.new result }
     ensures work_len_unchanged { length work.new ≡ length work.old }
 {
     let count = build(context, tree, work);
     let bytes = 16 * count;
-    if bytes <= out.len() {
-        index_memory::write_index(out, work, count);
-        return Given {
-            number: 0,
-            bytes: bytes as u64,
-        };
+    if out.len() < bytes {
+        return Err(Refusal::OutputTooSmall);
     }
-    Given {
-        number: OUTPUT_TOO_SMALL,
-        bytes: 0,
-    }
+    index_memory::write_index(out, work, count);
+    Ok(bytes)
 }
 
-// The index of a tree, where work memory has its one length.
-fn index_checked(context: u32, tree: &[u8], out: &mut [u8], work: &mut [u64]) -> Given
-    requires { length work.old ≡ work_words }
-    ensures answered { Answered context tree.now out.old out.new result }
+// The index of a tree.
+fn index(context: u32, tree: &[u8], out: &mut [u8], work: &mut [u64]) -> Result<usize, Refusal>
+    ensures answered { Answered context tree.now out.old work.old out.new result }
     ensures work_len_unchanged { length work.new ≡ length work.old }
 {
-    let mut ty = 0;
-    let number = claspwillow::claspwillow_check(
-        context,
-        tree,
-        &mut work[0..index_memory::SIZES],
-        &mut ty,
-    );
-    if number == 0 {
-        return index_in(claspwillow::context_of(context), tree, out, work);
-    }
-    Given { number, bytes: 0 }
-}
-
-// The number where work memory has another length.
-fn wrong_length(context: u32) -> u32
-    ensures { result ≡ wrong_length context }
-{
-    match context {
-        0 => BAD_WORK,
-        1 => BAD_WORK,
-        _ => BAD_CONTEXT,
-    }
+    let c = checked(context, tree, work)?;
+    index_in(c, tree, out, work)
 }
 
 // The index of a tree: the number of document 02, the index in `out`, 16 bytes for each record, and in `bytes` how many it has, 0 on a refusal. Work memory
@@ -274,15 +231,18 @@ pub fn claspwillow_index(
     ensures { IndexPromise context tree.now out.old work.old result
         out.new bytes.new work.new }
 {
-    if work.len() == WORK_WORDS {
-        let r = index_checked(context, tree, out, work);
-        words::clear(work);
-        *bytes = r.bytes;
-        return r.number;
-    }
+    let r = index(context, tree, out, work);
     words::clear(work);
-    *bytes = 0;
-    wrong_length(context)
+    match r {
+        Ok(n) => {
+            *bytes = n as u64;
+            0
+        }
+        Err(e) => {
+            *bytes = 0;
+            e.number()
+        }
+    }
 }
 
 // The one length of work memory that the entry takes, in words.
@@ -292,57 +252,39 @@ pub fn claspwillow_index_work() -> usize
     WORK_WORDS
 }
 
-// Looks byte `at` of the script up, where the index is that of a tree that the check passed.
-fn find_in(context: Context, tree: &[u8], index: &[u8], at: u64, work: &mut [u64]) -> Told
+// Looks byte `at` of the script up, where the tree passed the check.
+fn find_in(
+    context: Context,
+    tree: &[u8],
+    index: &[u8],
+    at: u64,
+    work: &mut [u64],
+) -> Result<Option<u32>, Refusal>
     requires { Checked context tree.now × (length work.old ≡ work_words) }
     ensures find_outcome { FindOutcome context tree.now index.now at result }
     ensures work_len_unchanged { length work.new ≡ length work.old }
 {
     let count = build(context, tree, work);
     let same = index_memory::same_index(index, work, count);
-    if same {
-        let i = index_memory::first_holding(work, count, at);
-        if i < count {
-            return Told {
-                number: 0,
-                found: 1,
-                it: i as u32,
-            };
-        }
-        return Told {
-            number: 0,
-            found: 0,
-            it: 0,
-        };
+    if !same {
+        return Err(Refusal::NotItsIndex);
     }
-    Told {
-        number: NOT_ITS_INDEX,
-        found: 0,
-        it: 0,
-    }
+    Ok(index_memory::first_holding(work, count, at))
 }
 
-// Looks byte `at` of the script up, where work memory has its one length.
-fn find_checked(context: u32, tree: &[u8], index: &[u8], at: u64, work: &mut [u64]) -> Told
-    requires { length work.old ≡ work_words }
-    ensures find_answered { FindAnswered context tree.now index.now at result }
+// Looks byte `at` of the script up.
+fn find(
+    context: u32,
+    tree: &[u8],
+    index: &[u8],
+    at: u64,
+    work: &mut [u64],
+) -> Result<Option<u32>, Refusal>
+    ensures find_answered { FindAnswered context tree.now index.now at work.old result }
     ensures work_len_unchanged { length work.new ≡ length work.old }
 {
-    let mut ty = 0;
-    let number = claspwillow::claspwillow_check(
-        context,
-        tree,
-        &mut work[0..index_memory::SIZES],
-        &mut ty,
-    );
-    if number == 0 {
-        return find_in(claspwillow::context_of(context), tree, index, at, work);
-    }
-    Told {
-        number,
-        found: 0,
-        it: 0,
-    }
+    let c = checked(context, tree, work)?;
+    find_in(c, tree, index, at, work)
 }
 
 // Looks byte `at` of the script up in the index of a tree: the number of document 02, in `found` whether the script has that byte, and in `it` the
@@ -359,17 +301,19 @@ pub fn claspwillow_find(
     ensures { FindPromise context tree.now index.now at work.old result
         found.new it.new work.new }
 {
-    if work.len() == WORK_WORDS {
-        let r = find_checked(context, tree, index, at, work);
-        words::clear(work);
-        *found = r.found;
-        *it = r.it;
-        return r.number;
-    }
+    let r = find(context, tree, index, at, work);
     words::clear(work);
     *found = 0;
     *it = 0;
-    wrong_length(context)
+    match r {
+        Ok(Some(i)) => {
+            *found = 1;
+            *it = i;
+            0
+        }
+        Ok(None) => 0,
+        Err(e) => e.number(),
+    }
 }
 
 // The one length of work memory that the entry takes, in words.

@@ -8,7 +8,8 @@ use native.Mathlib.Nat.{add-mul-mod_self_right}
 use native.Mathlib.Omega.{arith}
 use borrow.Author.Tests.{ltb-true, ltb-false}
 use lib.Dec.{ltb}
-use lib.ListN.{length, get_or, set, take, drop, length-append, get_or-append}
+use Rattle.std.proofs.lemmas.List.{append-nil}
+use lib.ListN.{length, get_or, set, take, drop, length-append, get_or-append, drop_of_length-le}
 use lib.Seq.{set-append_seam, drop-cons, take-suc, take-length, length-take-le}
 use Rattle.words.specs.Bytes.{bytes_of}
 use Rattle.words.proofs.Packing.{digit, rest}
@@ -107,10 +108,10 @@ module _ {index before out : List ℕ} {j : ℕ} (on : WriteOn index before out 
             ∙ sym (append_assoc xs (get_or index j 0 ∷ []) (drop (j + 1) before)) ∙ ap (λ (z : List ℕ). z ++ drop (j + 1) before) (sym next);
       }
 
-pub write-ends : {index before out : List ℕ} {j : ℕ} → WriteOn index before out j → (n : ℕ) → length index ≡ n → j ≡ n → out ≡ index ++ drop n before
-write-ends {index} {before} {out} {j} on n e f =
-    on.are ∙ ap (λ (m : ℕ). take m index ++ drop m before) (f ∙ sym e) ∙ ap (λ (z : List ℕ). z ++ drop (length index) before) (take-length index)
-    ∙ ap (λ (m : ℕ). index ++ drop m before) e
+pub write-ends : {index before out : List ℕ} {j : ℕ} → WriteOn index before out j → j ≡ length index → j ≡ length before → out ≡ index
+write-ends {index} {before} {out} {j} on e f =
+    on.are ∙ ap (λ (m : ℕ). take m index ++ drop j before) e ∙ ap (λ (z : List ℕ). z ++ drop j before) (take-length index)
+    ∙ ap (λ (z : List ℕ). index ++ z) (drop_of_length-le before {i = j} (omega arith)) ∙ append-nil index
 
 -- ---- the numbers of an entry, and the digits of a number
 

@@ -2,7 +2,7 @@
 use Prim.Native.Nat.{ℕ, ◌+◌, ◌*◌, ◌/◌, ◌%◌, ◌≤◌, ◌<◌}
 use mathlib.Core.Bool.{Bool, true, false}
 use mathlib.Core.List.{List, [], ◌∷◌}
-use mathlib.Core.Option.{none}
+use Rattle.std.specs.Prelude.{None, Option, Some}
 use mathlib.Core.Path.{◌≡◌, sym, ap, ◌∙◌}
 use native.Mathlib.Nat.{mod-lt, mod-eq_of_lt}
 use native.Mathlib.Omega.{arith}
@@ -13,9 +13,7 @@ use Rattle.trees.specs.declared.Subtree.{Subtree}
 use Rattle.trees.specs.Reading.{Slots}
 use Rattle.types.specs.declared.«Type».{«Type»}
 use Rattle.types.specs.TypeRules as rule
-use Rattle.trees.specs.declared.Slot.{Slot}
-use Rattle.trees.specs.declared.Slot.TheVariants as Slot
-use Rattle.trees.specs.WorkMemory.{slot_of, slot_answer}
+use Rattle.trees.specs.WorkMemory.{slot_of}
 use Rattle.trees.proofs.InMemory.{slot_added, free-slot, taken-slot}
 use Rattle.index_memory.specs.Memory.{size_digit, size_in, first_in, or_none, subtree_in, tree_word}
 
@@ -36,14 +34,14 @@ few_bytes false w =
     omega (arith, less)
 
 pub slot-back : (x : Subtree) → or_none (slot_of (tree_word x)) ≡ x
-slot-back x = ap (λ (s : Slots Subtree). or_none (get_or s 0 none)) (slot_added (0 ∷ []) 0 x (omega arith))
+slot-back x = ap (λ (s : Slots Subtree). or_none (get_or s 0 None)) (slot_added (0 ∷ []) 0 x (omega arith))
 
 -- what a slot answers
 
-pub free-is : (w : ℕ) {s : Slot} {x : Subtree} → s ≡ slot_answer (slot_of w) → s ≡ Slot.Free x → x ≡ or_none (slot_of w)
+pub free-is : (w : ℕ) {s : Option Subtree} {x : Subtree} → s ≡ slot_of w → s ≡ Some x → x ≡ or_none (slot_of w)
 free-is w e f = sym (ap or_none (free-slot (slot_of w) e f))
 
-pub taken_is : (w : ℕ) {s : Slot} {t : «Type»} → s ≡ slot_answer (slot_of w) → s ≡ Slot.Taken → t ≡ rule.FALSE
+pub taken_is : (w : ℕ) {s : Option Subtree} {t : «Type»} → s ≡ slot_of w → s ≡ None → t ≡ rule.FALSE
     → ◌≡◌ {A = Subtree} (record { ty = t; height = 0 }) (or_none (slot_of w))
 taken_is w e f g = ap (λ (t : «Type»). record { ty = t; height = 0 }) g ∙ sym (ap or_none (taken-slot (slot_of w) e f))
 

@@ -1,7 +1,6 @@
 -- What stands in work memory, a word for each record in each of four parts: where the record begins; its sizes, alone and 2^32 times before a VERIFY; its
 -- first byte in the script; its type and height, as the tree check packs them.
-use Rattle.std.specs.Prelude.{ℕ, ◌+◌, ◌*◌, ◌/◌, ◌%◌, Bool, true, false, List, get_or}
-use Rattle.std.proofs.Math.Option.{Option, none, some}
+use Rattle.std.specs.Prelude.{ℕ, ◌+◌, ◌*◌, ◌/◌, ◌%◌, Bool, true, false, List, get_or, Option, None, Some}
 use Rattle.types.specs.TypeRules as rule
 use Rattle.types.specs.TypeOrder.{pack}
 use Rattle.trees.specs.declared.Subtree.{Subtree}
@@ -29,8 +28,8 @@ first_in work i = get_or work (8192 + i) 0
 -- ---- types and heights
 
 abbrev pub or_none : Option Subtree → Subtree
-or_none (some x) = x
-or_none none = record { ty = rule.FALSE; height = 0 }
+or_none (Some x) = x
+or_none None = record { ty = rule.FALSE; height = 0 }
 
 unfoldable pub subtree_in : (work : List ℕ) → ℕ → Subtree
 subtree_in work i = or_none (slot_of (get_or work (12288 + i) 0))

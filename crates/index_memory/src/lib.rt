@@ -8,7 +8,7 @@ ghost use Rattle.index_memory.specs.Entries.{part, digit};
 ghost use Rattle.index_memory.specs.Memory.{work_words, size_in, first_in, subtree_in, entry_in, index_in};
 ghost use Rattle.index_memory.specs.Looking.{Compared, holds_in, FirstHolding};
 
-use trees::{Slot, Subtree};
+use trees::Subtree;
 use types::Type;
 
 // Where the sizes, the places and the types begin, a word for each record.
@@ -36,8 +36,8 @@ pub fn subtree_at(work: &[u64], i: usize) -> Subtree
     ensures { result ≡ subtree_in work.now i }
 {
     match trees::slot_of(work[TYPES + i]) {
-        Slot::Free(x) => x,
-        Slot::Taken => Subtree {
+        Some(x) => x,
+        None => Subtree {
             ty: Type::of_false(),
             height: 0,
         },
@@ -58,15 +58,8 @@ fn number_at(work: &[u64], i: usize, place: usize) -> u64
     ensures { result ≡ part (entry_in work.now i) place }
 {
     match place {
-        0 => {
-            let x = subtree_at(work, i);
-            let ty = x.ty;
-            ty.pack() as u64
-        }
-        1 => {
-            let x = subtree_at(work, i);
-            x.height
-        }
+        0 => subtree_at(work, i).ty.pack() as u64,
+        1 => subtree_at(work, i).height,
         2 => first_at(work, i),
         _ => size_at(work, i, false),
     }
@@ -91,11 +84,8 @@ pub fn write_index(out: &mut [u8], work: &[u64], count: usize)
     requires { (length work.now ≡ work_words) × (count ≤ 4096) × (16 * count ≤ length out.old) }
     ensures { out.new ≡ index_in work.now count ++ drop (16 * count) out.old }
 {
-    let end = 16 * count;
-    let mut j = 0;
-    while j < end {
-        out[j] = byte_at(work, j);
-        j += 1;
+    for (j, byte) in out[..16 * count].iter_mut().enumerate() {
+        *byte = byte_at(work, j);
     }
 }
 
@@ -104,17 +94,13 @@ pub fn same_index(index: &[u8], work: &[u64], count: usize) -> bool
     requires { (length work.now ≡ work_words) × (count ≤ 4096) }
     ensures { Compared index.now (index_in work.now count) result }
 {
-    let end = 16 * count;
-    if index.len() != end {
+    if index.len() != 16 * count {
         return false;
     }
-    let mut j = 0;
-    while j < end {
-        let b = byte_at(work, j);
-        if index[j] != b {
+    for (j, byte) in index.iter().enumerate() {
+        if *byte != byte_at(work, j) {
             return false;
         }
-        j += 1;
     }
     true
 }
@@ -125,25 +111,18 @@ fn holds(work: &[u64], i: usize, at: u64) -> bool
     ensures { result ≡ holds_in work.now i at }
 {
     let first = first_at(work, i);
-    let size = size_at(work, i, false);
-    if at < first {
-        return false;
-    }
-    at - first < size
+    first <= at && at - first < size_at(work, i, false)
 }
 
-// The first of so many records that holds byte `at` of the script, or how many there are.
-pub fn first_holding(work: &[u64], count: usize, at: u64) -> usize
+// The first of so many records that holds byte `at` of the script.
+pub fn first_holding(work: &[u64], count: usize, at: u64) -> Option<u32>
     requires { (length work.now ≡ work_words) × (count ≤ 4096) }
     ensures { FirstHolding work.now count at result }
 {
-    let mut i = 0;
-    while i < count {
-        let here = holds(work, i, at);
-        if here {
-            return i;
+    for i in 0..count {
+        if holds(work, i, at) {
+            return Some(i as u32);
         }
-        i += 1;
     }
-    count
+    None
 }

@@ -2,7 +2,7 @@
 use Prim.Native.Nat.{ℕ, zero, suc, ◌+◌, ◌-◌, ◌≤◌, ◌<◌}
 use mathlib.Core.Bool.{Bool, true, false}
 use mathlib.Core.List.{List, [], ◌∷◌, ◌++◌}
-use mathlib.Core.Option.{Option, none, some}
+use Rattle.std.specs.Prelude.{Option, None, Some}
 use mathlib.Core.Path.{◌≡◌, refl, sym, ap, subst, ◌∙◌}
 use native.Mathlib.Omega.{arith}
 use borrow.Author.Tests.{eqb-true, eqb-false, ltb-true, ltb-false}
@@ -21,28 +21,28 @@ use Rattle.index_places.specs.Places.{kids_with, kids_at}
 -- ---- slots from which children are taken
 
 abbrev Free : Slots Fragment → ℕ → Type 0
-Free slots m = (x : Fragment) × (get_or slots m none ≡ some x)
+Free slots m = (x : Fragment) × (get_or slots m None ≡ Some x)
 
-no_slot : (slots : Slots Fragment) (m : ℕ) {x : Fragment} → get_or slots m none ≡ some x → get_or slots m none ≡ none → ⊥
+no_slot : (slots : Slots Fragment) (m : ℕ) {x : Fragment} → get_or slots m None ≡ Some x → get_or slots m None ≡ None → ⊥
 no_slot slots m e f =
     let z : ◌≡◌ {A = ℕ} 0 1 = cc (e, f) in
     omega arith
 
-emptied : (slots : Slots Fragment) (j : ℕ) → get_or (set slots j none) j none ≡ none
+emptied : (slots : Slots Fragment) (j : ℕ) → get_or (set slots j None) j None ≡ None
 emptied [] zero = refl
 emptied [] (suc j) = refl
 emptied (x ∷ slots) zero = refl
 emptied (x ∷ slots) (suc j) = emptied slots j
 
 record TakenOut (js : List ℕ) (slots left : Slots Fragment) : Type 0 where
-  gone : (k : ℕ) → k < length js → get_or left (get_or js k 0) none ≡ none
-  stay : (m : ℕ) → get_or slots m none ≡ none → get_or left m none ≡ none
+  gone : (k : ℕ) → k < length js → get_or left (get_or js k 0) None ≡ None
+  stay : (m : ℕ) → get_or slots m None ≡ None → get_or left m None ≡ None
   were : (k : ℕ) → k < length js → Free slots (get_or js k 0)
   apart : (k l : ℕ) → k < l → l < length js → get_or js k 0 ≡ get_or js l 0 → ⊥
-  those : (m : ℕ) → Free slots m → get_or left m none ≡ none → (k : ℕ) × (k < length js) × (get_or js k 0 ≡ m)
+  those : (m : ℕ) → Free slots m → get_or left m None ≡ None → (k : ℕ) × (k < length js) × (get_or js k 0 ≡ m)
   long : length left ≡ length slots
 
-taken_out : (js : List ℕ) (slots : Slots Fragment) {t : Taken Fragment} → take_all js slots ≡ some t → TakenOut js slots t.left
+taken_out : (js : List ℕ) (slots : Slots Fragment) {t : Taken Fragment} → take_all js slots ≡ Some t → TakenOut js slots t.left
 unfolding take_all
 taken_out [] slots {t} e =
     let is : t ≡ record { those = []; left = slots } = cc in
@@ -56,29 +56,29 @@ taken_out [] slots {t} e =
       long = refl;
     })
 taken_out (j ∷ js) slots {t} e =
-    let d = first_done (get_or slots j none) (take_all js (set slots j none)) e in
-    rw d.5 (more d.0 d.2 (taken_out js (set slots j none) d.3))
+    let d = first_done (get_or slots j None) (take_all js (set slots j None)) e in
+    rw d.5 (more d.0 d.2 (taken_out js (set slots j None) d.3))
   where
-    more : {left : Slots Fragment} (x : Fragment) → get_or slots j none ≡ some x → TakenOut js (set slots j none) left → TakenOut (j ∷ js) slots left
+    more : {left : Slots Fragment} (x : Fragment) → get_or slots j None ≡ Some x → TakenOut js (set slots j None) left → TakenOut (j ∷ js) slots left
     more {left} x here rest =
-        record { gone = gone; stay = stay; were = were; apart = apart; those = those; long = rest.long ∙ length-set slots j none }
+        record { gone = gone; stay = stay; were = were; apart = apart; those = those; long = rest.long ∙ length-set slots j None }
       where
-        other : (m : ℕ) → (m ≡ j → ⊥) → get_or (set slots j none) m none ≡ get_or slots m none
-        other m h = get_or-set_other slots j m none none h
+        other : (m : ℕ) → (m ≡ j → ⊥) → get_or (set slots j None) m None ≡ get_or slots m None
+        other m h = get_or-set_other slots j m None None h
 
-        gone : (k : ℕ) → k < length (j ∷ js) → get_or left (get_or (j ∷ js) k 0) none ≡ none
+        gone : (k : ℕ) → k < length (j ∷ js) → get_or left (get_or (j ∷ js) k 0) None ≡ None
         gone zero h = rest.stay j (emptied slots j)
         gone (suc k) h = rest.gone k (omega arith)
 
-        stay : (m : ℕ) → get_or slots m none ≡ none → get_or left m none ≡ none
+        stay : (m : ℕ) → get_or slots m None ≡ None → get_or left m None ≡ None
         stay m h =
-            let not-here : m ≡ j → ⊥ = λ s. no_slot slots j here (subst (λ (m : ℕ). get_or slots m none ≡ none) s h) in
+            let not-here : m ≡ j → ⊥ = λ s. no_slot slots j here (subst (λ (m : ℕ). get_or slots m None ≡ None) s h) in
             rest.stay m (other m not-here ∙ h)
 
         not_first : (k : ℕ) → k < length js → get_or js k 0 ≡ j → ⊥
         not_first k h s =
             let free = rest.were k h in
-            no_slot (set slots j none) j (subst (λ (m : ℕ). get_or (set slots j none) m none ≡ some free.0) s free.1) (emptied slots j)
+            no_slot (set slots j None) j (subst (λ (m : ℕ). get_or (set slots j None) m None ≡ Some free.0) s free.1) (emptied slots j)
 
         were : (k : ℕ) → k < length (j ∷ js) → Free slots (get_or (j ∷ js) k 0)
         were zero h = (x, here)
@@ -92,7 +92,7 @@ taken_out (j ∷ js) slots {t} e =
         apart (suc k) zero h i s = absurd (omega arith)
         apart (suc k) (suc l) h i s = rest.apart k l (omega arith) (omega arith) s
 
-        those : (m : ℕ) → Free slots m → get_or left m none ≡ none → (k : ℕ) × (k < length (j ∷ js)) × (get_or (j ∷ js) k 0 ≡ m)
+        those : (m : ℕ) → Free slots m → get_or left m None ≡ None → (k : ℕ) × (k < length (j ∷ js)) × (get_or (j ∷ js) k 0 ≡ m)
         those m free h = by_place (eqb m j) refl
           where
             by_place : (b : Bool) → eqb m j ≡ b → (k : ℕ) × (k < length (j ∷ js)) × (get_or (j ∷ js) k 0 ≡ m)
@@ -104,7 +104,7 @@ taken_out (j ∷ js) slots {t} e =
 -- ---- the records read
 
 module _ (tree : List ℕ) where
-  kids-are : (i : ℕ) {p : Payload} → fragment_payload (record_at tree i) ≡ some p → kids_at tree i ≡ children_of p
+  kids-are : (i : ℕ) {p : Payload} → fragment_payload (record_at tree i) ≡ Some p → kids_at tree i ≡ children_of p
   unfolding kids_at
   kids-are i e = ap kids_with e
 
@@ -119,14 +119,14 @@ module _ (tree : List ℕ) where
   slots-long : {n : ℕ} {slots : Slots Fragment} → Read tree n slots → length slots ≡ n
   slots-long start = refl
   slots-long (next {n} {slots} len p t f r l e k g) =
-      length-append t.left (some f ∷ []) ∙ omega (arith, (taken_out (children_of p) slots k).long, slots-long r)
+      length-append t.left (Some f ∷ []) ∙ omega (arith, (taken_out (children_of p) slots k).long, slots-long r)
 
   -- the slot below the newest, and the newest
-  older : (left : Slots Fragment) (f : Fragment) {n m : ℕ} → length left ≡ n → m < n → get_or (left ++ (some f ∷ [])) m none ≡ get_or left m none
-  older left f {n} {m} e h = get_or-append left (some f ∷ []) none m (omega (arith, e))
+  older : (left : Slots Fragment) (f : Fragment) {n m : ℕ} → length left ≡ n → m < n → get_or (left ++ (Some f ∷ [])) m None ≡ get_or left m None
+  older left f {n} {m} e h = get_or-append left (Some f ∷ []) None m (omega (arith, e))
 
   module _ {n : ℕ} {slots : Slots Fragment} (p : Payload) (t : Taken Fragment) (r : Read tree n slots)
-      (e : fragment_payload (record_at tree n) ≡ some p) (k : take_all (children_of p) slots ≡ some t) where
+      (e : fragment_payload (record_at tree n) ≡ Some p) (k : take_all (children_of p) slots ≡ Some t) where
     out : TakenOut (kids_at tree n) slots t.left
     out = rw (kids-are n e) (taken_out (children_of p) slots k)
 
@@ -135,18 +135,18 @@ module _ (tree : List ℕ) where
 
   -- what was taken is gone
   gone_at : {n : ℕ} {slots : Slots Fragment} → Read tree n slots → (i k : ℕ) → i < n → k < length (kids_at tree i)
-      → get_or slots (get_or (kids_at tree i) k 0) none ≡ none
+      → get_or slots (get_or (kids_at tree i) k 0) None ≡ None
   gone_at start i k h l = absurd (omega arith)
   gone_at (next {n} {slots} len p t f r w e s g) i k h l =
       let small = kids-before (rows-read tree (next {n = n} {slots = slots} len p t f r w e s g) i h) k l in
       older t.left f (left-long p t r e s) (omega arith) ∙ by-test (ltb i n) refl (λ b. gone_at r i k b l)
     where
-      by-test : (b : Bool) → ltb i n ≡ b → (i < n → get_or slots (get_or (kids_at tree i) k 0) none ≡ none)
-          → get_or t.left (get_or (kids_at tree i) k 0) none ≡ none
+      by-test : (b : Bool) → ltb i n ≡ b → (i < n → get_or slots (get_or (kids_at tree i) k 0) None ≡ None)
+          → get_or t.left (get_or (kids_at tree i) k 0) None ≡ None
       by-test true b rec = (out p t r e s).stay (get_or (kids_at tree i) k 0) (rec (ltb-true i n b))
       by-test false b rec =
           let same : i ≡ n = omega (arith, ltb-false i n b) in
-          subst (λ (m : ℕ). get_or t.left (get_or (kids_at tree m) k 0) none ≡ none) (sym same)
+          subst (λ (m : ℕ). get_or t.left (get_or (kids_at tree m) k 0) None ≡ None) (sym same)
           ((out p t r e s).gone k (subst (λ (m : ℕ). k < length (kids_at tree m)) same l))
 
   -- a later record has no child that an earlier one has, and no record has one twice
@@ -162,7 +162,7 @@ module _ (tree : List ℕ) where
           let free = (out pay t r e s).were l (subst (λ (m : ℕ). l < length (kids_at tree m)) last b) in
           let m = get_or (kids_at tree n) l 0 in
           let its : get_or (kids_at tree p) k 0 ≡ m = same ∙ ap (λ (q : ℕ). get_or (kids_at tree q) l 0) last in
-          no_slot slots m free.1 (subst (λ (m : ℕ). get_or slots m none ≡ none) its (gone_at r p k (omega arith) a))
+          no_slot slots m free.1 (subst (λ (m : ℕ). get_or slots m None ≡ None) its (gone_at r p k (omega arith) a))
 
   never-twice : {n : ℕ} {slots : Slots Fragment} → Read tree n slots → (p k l : ℕ) → p < n → k < l → l < length (kids_at tree p)
       → get_or (kids_at tree p) k 0 ≡ get_or (kids_at tree p) l 0 → ⊥
@@ -184,38 +184,38 @@ module _ (tree : List ℕ) where
     has : place < length (kids_at tree it)
     this : get_or (kids_at tree it) place 0 ≡ i
 
-  taken-by : {n : ℕ} {slots : Slots Fragment} → Read tree n slots → (i : ℕ) → i < n → get_or slots i none ≡ none → Parent n i
+  taken-by : {n : ℕ} {slots : Slots Fragment} → Read tree n slots → (i : ℕ) → i < n → get_or slots i None ≡ None → Parent n i
   taken-by start i h z = absurd (omega arith)
   taken-by (next {n} {slots} len p t f r w e s g) i h z = by-test (ltb i n) refl (λ l o. taken-by r i l o)
     where
       later : Parent n i → Parent (suc n) i
       later q = record { it = q.it; place = q.place; inside = omega (arith, q.inside); has = q.has; this = q.this }
 
-      by-slot : (o : Option Fragment) → get_or slots i none ≡ o → get_or t.left i none ≡ none → (get_or slots i none ≡ none → Parent n i)
+      by-slot : (o : Option Fragment) → get_or slots i None ≡ o → get_or t.left i None ≡ None → (get_or slots i None ≡ None → Parent n i)
           → Parent (suc n) i
-      by-slot none o z rec = later (rec o)
-      by-slot (some x) o z rec =
+      by-slot None o z rec = later (rec o)
+      by-slot (Some x) o z rec =
           let found = (out p t r e s).those i (x, o) z in
           record { it = n; place = found.0; inside = omega arith; has = found.1; this = found.2 }
 
-      by-test : (b : Bool) → ltb i n ≡ b → (i < n → get_or slots i none ≡ none → Parent n i) → Parent (suc n) i
+      by-test : (b : Bool) → ltb i n ≡ b → (i < n → get_or slots i None ≡ None → Parent n i) → Parent (suc n) i
       by-test true b rec =
           let l = ltb-true i n b in
-          by-slot (get_or slots i none) refl (sym (older t.left f (left-long p t r e s) l) ∙ z) (rec l)
+          by-slot (get_or slots i None) refl (sym (older t.left f (left-long p t r e s) l) ∙ z) (rec l)
       by-test false b rec =
           let last : i ≡ n = omega (arith, ltb-false i n b) in
-          let mine : get_or (t.left ++ (some f ∷ [])) i none ≡ some f =
-          rw last (get_or_at t.left (some f) [] none n (left-long p t r e s)) in
-          absurd (no_slot (t.left ++ (some f ∷ [])) i mine z)
+          let mine : get_or (t.left ++ (Some f ∷ [])) i None ≡ Some f =
+          rw last (get_or_at t.left (Some f) [] None n (left-long p t r e s)) in
+          absurd (no_slot (t.left ++ (Some f ∷ [])) i mine z)
 
 -- at the end the last slot alone is free
-only-root : (slots : Slots Fragment) {f : Fragment} → root_of slots ≡ some f → (i : ℕ) → suc i < length slots → get_or slots i none ≡ none
+only-root : (slots : Slots Fragment) {f : Fragment} → root_of slots ≡ Some f → (i : ℕ) → suc i < length slots → get_or slots i None ≡ None
 unfolding root_of
 only-root [] e i h = absurd (omega arith)
 only-root (x ∷ []) e i h = absurd (omega arith)
-only-root (none ∷ x ∷ slots) e zero h = refl
-only-root (none ∷ x ∷ slots) e (suc i) h = only-root (x ∷ slots) e i (omega arith)
-only-root (some y ∷ x ∷ slots) e i h = absurd (let z : ◌≡◌ {A = ℕ} 0 1 = cc in omega arith)
+only-root (None ∷ x ∷ slots) e zero h = refl
+only-root (None ∷ x ∷ slots) e (suc i) h = only-root (x ∷ slots) e i (omega arith)
+only-root (Some y ∷ x ∷ slots) e i h = absurd (let z : ◌≡◌ {A = ℕ} 0 1 = cc in omega arith)
 
 -- ---- the tree's records
 

@@ -1,8 +1,10 @@
 -- Every record of a tree that the check passed is well_typed and not too tall, and its type and height come from those of its children. Assumes nothing.
+use Rattle.correctness.specs.declared.TypeError.TheVariants as TypeError
+use Rattle.correctness.specs.declared.TypeError.{TypeError}
 use Prim.Native.Nat.{ℕ, zero, suc, max, ◌+◌, ◌-◌, ◌≤◌, ◌<◌}
 use mathlib.Core.Bool.{Bool, true, false}
 use mathlib.Core.List.{List, [], ◌∷◌, map}
-use mathlib.Core.Option.{Option, none, some}
+use Rattle.std.specs.Prelude.{Option, None, Some, Result, Ok, Err}
 use mathlib.Core.Path.{◌≡◌, refl, sym, ap, subst, ◌∙◌}
 use native.Mathlib.Omega.{arith}
 use borrow.Author.Tests.{eqb-true, eqb-false}
@@ -11,8 +13,6 @@ use lib.ListN.{length, get_or, length-map, get_or-map}
 use Rattle.records.specs.Payloads.{Payload, k_of, children_of}
 use Rattle.records.specs.RecordForm.{kind_of}
 use Rattle.types.specs.declared.«Type».{«Type»}
-use Rattle.types.specs.declared.TypeResult.{TypeResult}
-use Rattle.types.specs.declared.TypeResult.TheVariants.{Ok, IllTyped}
 use Rattle.contexts.specs.declared.Context.{Context}
 use Rattle.trees.specs.Fragment.{Fragment}
 use Rattle.trees.specs.Typing.{type_of}
@@ -80,17 +80,17 @@ module _ (c : Context) where
         some-ill : Any (Ill c) those
         some-ill = any_at those k (fragment_at tree 0) (omega (arith, those-long)) (ap (type_of c) (kid-fragment k) ∙ e)
 
-        by-line : (m : Option Maker) (r : Option Rule) → FitsIfFound c m r → made_by m row.payload those ≡ some (fragment_at tree i) → Ill c (fragment_at tree i)
-        by-line (some m) (some r) h made = subst (IfSome (Ill c)) made (h.ill row.payload those some-ill)
-        by-line (some m) none h made = absurd h
-        by-line none r h made = absurd (let z : ◌≡◌ {A = ℕ} 0 1 = cc in omega arith)
+        by-line : (m : Option Maker) (r : Option Rule) → FitsIfFound c m r → made_by m row.payload those ≡ Some (fragment_at tree i) → Ill c (fragment_at tree i)
+        by-line (Some m) (Some r) h made = subst (IfSome (Ill c)) made (h.ill row.payload those some-ill)
+        by-line (Some m) None h made = absurd h
+        by-line None r h made = absurd (let z : ◌≡◌ {A = ℕ} 0 1 = cc in omega arith)
 
     kid-typed : WellTyped (fragment_at tree i) → (k : ℕ) → k < length (kids_at tree i) → WellTyped (fragment_at tree (get_or (kids_at tree i) k 0))
     kid-typed w k h = by-type (type_of c (fragment_at tree (get_or (kids_at tree i) k 0))) refl
       where
-        by-type : (t : TypeResult) → type_of c (fragment_at tree (get_or (kids_at tree i) k 0)) ≡ t → WellTyped (fragment_at tree (get_or (kids_at tree i) k 0))
+        by-type : (t : Result «Type» TypeError) → type_of c (fragment_at tree (get_or (kids_at tree i) k 0)) ≡ t → WellTyped (fragment_at tree (get_or (kids_at tree i) k 0))
         by-type (Ok t) e = well (fragment_at tree (get_or (kids_at tree i) k 0)) e
-        by-type IllTyped e =
+        by-type (Err TypeError.IllTyped) e =
             let ill = ill-above k h e in
             absurd (let z : ◌≡◌ {A = ℕ} 0 1 = cc (w, ill) in omega arith)
 
@@ -129,16 +129,16 @@ module _ (c : Context) where
         their : All (Good c) (map typed (children_of row.payload))
         their = all-good (children_of row.payload) (subst (λ (l : List ℕ). (k : ℕ) → k < length l → WellTyped (fragment_at tree (get_or l k 0))) (kids-row tree row) good)
 
-        by-line : (m : Option Maker) (r : Option Rule) → FitsIfFound c m r → made_by m row.payload those ≡ some (fragment_at tree i)
+        by-line : (m : Option Maker) (r : Option Rule) → FitsIfFound c m r → made_by m row.payload those ≡ Some (fragment_at tree i)
             → given_by r c (k_of row.payload) (types_of (map value (kids_at tree i))) ≡ answered (type_of c (fragment_at tree i))
-        by-line (some m) (some r) h made =
+        by-line (Some m) (Some r) h made =
             ap (λ (l : List ℕ). r c (k_of row.payload) (types_of (map value l))) (kids-row tree row)
             ∙ ap (r c (k_of row.payload)) (sym (types_are (children_of row.payload)))
             ∙ h.same row.payload (map typed (children_of row.payload)) their
             ∙ ap (λ (l : List Fragment). type_made c (m row.payload l)) (trees-are (children_of row.payload))
             ∙ ap (type_made c) made
-        by-line (some m) none h made = absurd h
-        by-line none r h made = absurd (let z : ◌≡◌ {A = ℕ} 0 1 = cc in omega arith)
+        by-line (Some m) None h made = absurd h
+        by-line None r h made = absurd (let z : ◌≡◌ {A = ℕ} 0 1 = cc in omega arith)
 
     pub height-at : height_of (fragment_at tree i) ≡ suc (tallest (map value (kids_at tree i)))
     height-at =

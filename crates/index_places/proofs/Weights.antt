@@ -3,7 +3,7 @@
 use Prim.Native.Nat.{ℕ, zero, suc, ◌+◌, ◌*◌, ◌≤◌, ◌<◌}
 use mathlib.Core.Bool.{Bool, true, false, cond}
 use mathlib.Core.List.{List, [], ◌∷◌}
-use mathlib.Core.Option.{Option, some}
+use Rattle.std.specs.Prelude.{Option, Some}
 use mathlib.Core.Path.{◌≡◌, refl, sym, ap, subst, ◌∙◌}
 use native.Mathlib.Omega.{arith}
 use borrow.Author.Tests.{leb-true, leb-false, eqb-true}
@@ -232,9 +232,9 @@ module _ {tree : List ℕ} {i : ℕ} (row : TreeRecord tree i) where
   lock-few l h =
       let is = number-payload (row_told row) (omega arith) (omega arith) in
       let shape = shapes-in 36 37 refl kind l h in
-      let fits : payload_of Shape.Lock (record_at tree i) ≡ some row.payload =
+      let fits : payload_of Shape.Lock (record_at tree i) ≡ Some row.payload =
       sym (of-fragment (record_at tree i) (fragment-record (record_at tree i) row.fits).0 shape) ∙ row.fits in
-      lock-as _ is (lock-bounds (record_at tree i) (fits ∙ ap some is)).1
+      lock-as _ is (lock-bounds (record_at tree i) (fits ∙ ap Some is)).1
 
   lock-small : (n : ℕ) → number_of row.payload ≡ n → lock_size kind n ≤ 5
   lock-small n e = by_kind (eqb kind 36) (eqb kind 37) refl refl
@@ -251,7 +251,7 @@ module _ {tree : List ℕ} {i : ℕ} (row : TreeRecord tree i) where
   own-few : own (fragment_at tree i) ≤ 640
   own-few =
       let p = row.payload in
-      let head : head_of (fragment_at tree i) ≡ head_with kind (some p) =
+      let head : head_of (fragment_at tree i) ≡ head_with kind (Some p) =
       head_at row ∙ ap (head_with kind) row.fits in
       let is : own (fragment_at tree i) ≡ 48 + (lock_size kind (number_of p) + (number_size (k_of p) + (36 * length (keys_of p) + number_size (length (keys_of p))))) =
       ap own_of head in

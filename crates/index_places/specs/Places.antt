@@ -1,8 +1,7 @@
 -- Where the fragment of each record stands in the script: document 02, R-11, over the records of document 01, "Records". A record's bytes are laid as
 -- `claspwillow_script` lays them (crate script_entry, specs/Pieces.antt): what stands first, each child in the script's order with what follows it, and
 -- what stands last.
-use Rattle.std.specs.Prelude.{ℕ, zero, suc, ◌+◌, ◌≤◌, ◌<◌, Bool, false, List, [], ◌≡◌, length, get_or}
-use Rattle.std.proofs.Math.Option.{Option, none, some}
+use Rattle.std.specs.Prelude.{ℕ, zero, suc, ◌+◌, ◌≤◌, ◌<◌, Bool, false, List, [], ◌≡◌, length, get_or, Option, None, Some}
 use Rattle.records.specs.Payloads.{Payload, children_of}
 use Rattle.records.specs.RecordForm.{kind_of, fragment_payload}
 use Rattle.contexts.specs.declared.Context.{Context}
@@ -13,8 +12,8 @@ use Rattle.index_places.specs.Sizes.{size_of}
 
 -- the children of a record, by their numbers
 abbrev pub kids_with : Option Payload → List ℕ
-kids_with (some p) = children_of p
-kids_with none = []
+kids_with (Some p) = children_of p
+kids_with None = []
 
 unfoldable pub kids_at : (tree : List ℕ) → ℕ → List ℕ
 kids_at tree i = kids_with (fragment_payload (record_at tree i))

@@ -3,7 +3,7 @@
 // The contracts cite specs/View.antt.
 #![tactic(auto)]
 
-ghost use Rattle.std.specs.Prelude.{cond, ◌≡◌, ◌≤◌, ◌<◌};
+ghost use Rattle.std.specs.Prelude.{◌≡◌, ◌<◌};
 ghost use Rattle.index_view.specs.View as View;
 ghost use Rattle.index_view.specs.View.{count, type_in, height_in, first_in, length_in};
 
@@ -62,10 +62,7 @@ fn holds(index: &[u8], i: usize, at: u64) -> bool
 {
     let first = first_of(index, i) as u64;
     let length = length_of(index, i) as u64;
-    if at < first {
-        return false;
-    }
-    at < first + length
+    first <= at && at < first + length
 }
 
 // The first record that holds a byte of the script, as many as there are where none does.
@@ -73,21 +70,12 @@ pub fn innermost(index: &[u8], at: u64) -> usize
     ensures { result ≡ View.innermost index.now at }
 {
     let n = entries(index);
-    let mut i = 0;
-    while i < n {
+    for i in 0..n {
         if holds(index, i, at) {
             return i;
         }
-        i += 1;
     }
     n
-}
-
-// 1 for true, 0 for false.
-fn one(b: bool) -> usize
-    ensures { (result ≡ cond b 1 0) × (result ≤ 1) }
-{
-    if b { 1 } else { 0 }
 }
 
 // How many records after record i hold a byte of the script.
@@ -97,10 +85,10 @@ pub fn depth(index: &[u8], i: usize, at: u64) -> usize
 {
     let n = entries(index);
     let mut deep = 0;
-    let mut k = i + 1;
-    while k < n {
-        deep += one(holds(index, k, at));
-        k += 1;
+    for k in i + 1..n {
+        if holds(index, k, at) {
+            deep += 1;
+        }
     }
     deep
 }

@@ -25,20 +25,14 @@ impl Dissat {
     pub fn is_none(self) -> bool
         ensures { result ≡ is_none self }
     {
-        match self {
-            Dissat::None => true,
-            _ => false,
-        }
+        matches!(self, Dissat::None)
     }
 
     // Whether there is exactly one dissatisfaction: e.
     pub fn is_unique(self) -> bool
         ensures { result ≡ is_unique self }
     {
-        match self {
-            Dissat::Unique => true,
-            _ => false,
-        }
+        matches!(self, Dissat::Unique)
     }
 
     // The dissatisfactions with a new one beside them.
@@ -235,12 +229,9 @@ impl Malleability {
     pub fn cast_dupif(self) -> Self
         ensures { result ≡ cast_dupif self }
     {
-        let dissat = self.dissat;
-        let added = dissat.added();
         Malleability {
-            dissat: added,
-            safe: self.safe,
-            non_malleable: self.non_malleable,
+            dissat: self.dissat.added(),
+            ..self
         }
     }
 
@@ -250,8 +241,7 @@ impl Malleability {
     {
         Malleability {
             dissat: Dissat::None,
-            safe: self.safe,
-            non_malleable: self.non_malleable,
+            ..self
         }
     }
 
@@ -259,12 +249,9 @@ impl Malleability {
     pub fn cast_nonzero(self) -> Self
         ensures { result ≡ cast_nonzero self }
     {
-        let dissat = self.dissat;
-        let added = dissat.added();
         Malleability {
-            dissat: added,
-            safe: self.safe,
-            non_malleable: self.non_malleable,
+            dissat: self.dissat.added(),
+            ..self
         }
     }
 
@@ -281,8 +268,7 @@ impl Malleability {
     {
         Malleability {
             dissat: Dissat::None,
-            safe: self.safe,
-            non_malleable: self.non_malleable,
+            ..self
         }
     }
 
@@ -290,12 +276,9 @@ impl Malleability {
     pub fn cast_or_i_false(self) -> Self
         ensures { result ≡ cast_or_i_false self }
     {
-        let dissat = self.dissat;
-        let added = dissat.added();
         Malleability {
-            dissat: added,
-            safe: self.safe,
-            non_malleable: self.non_malleable,
+            dissat: self.dissat.added(),
+            ..self
         }
     }
 
@@ -303,9 +286,7 @@ impl Malleability {
     pub fn and_b(left: Self, right: Self) -> Self
         ensures { result ≡ and_b left right }
     {
-        let left_dissat = left.dissat;
-        let right_dissat = right.dissat;
-        let dissat = and_b_dissat(left_dissat, right_dissat, left.safe, right.safe);
+        let dissat = and_b_dissat(left.dissat, right.dissat, left.safe, right.safe);
         let safe = left.safe | right.safe;
         let non_malleable = left.non_malleable & right.non_malleable;
         Malleability {
@@ -319,8 +300,7 @@ impl Malleability {
     pub fn and_v(left: Self, right: Self) -> Self
         ensures { result ≡ and_v left right }
     {
-        let right_dissat = right.dissat;
-        let dissat = none_if(right_dissat.is_none() | left.safe);
+        let dissat = none_if(right.dissat.is_none() | left.safe);
         let safe = left.safe | right.safe;
         let non_malleable = left.non_malleable & right.non_malleable;
         Malleability {
@@ -334,8 +314,7 @@ impl Malleability {
     fn either_safe(left: Self, right: Self) -> bool
         ensures { result ≡ either_safe left right }
     {
-        let left_dissat = left.dissat;
-        let unique = left.non_malleable & left_dissat.is_unique();
+        let unique = left.non_malleable & left.dissat.is_unique();
         (unique & right.non_malleable) & (left.safe | right.safe)
     }
 
@@ -343,9 +322,8 @@ impl Malleability {
     pub fn or_b(left: Self, right: Self) -> Self
         ensures { result ≡ or_b left right }
     {
-        let right_dissat = right.dissat;
         let safe = left.safe & right.safe;
-        let non_malleable = Malleability::either_safe(left, right) & right_dissat.is_unique();
+        let non_malleable = Malleability::either_safe(left, right) & right.dissat.is_unique();
         Malleability {
             dissat: Dissat::Unique,
             safe,
@@ -357,11 +335,10 @@ impl Malleability {
     pub fn or_d(left: Self, right: Self) -> Self
         ensures { result ≡ or_d left right }
     {
-        let right_dissat = right.dissat;
         let safe = left.safe & right.safe;
         let non_malleable = Malleability::either_safe(left, right);
         Malleability {
-            dissat: right_dissat,
+            dissat: right.dissat,
             safe,
             non_malleable,
         }
@@ -384,9 +361,7 @@ impl Malleability {
     pub fn or_i(left: Self, right: Self) -> Self
         ensures { result ≡ or_i left right }
     {
-        let left_dissat = left.dissat;
-        let right_dissat = right.dissat;
-        let dissat = or_i_dissat(left_dissat, right_dissat);
+        let dissat = or_i_dissat(left.dissat, right.dissat);
         let safe = left.safe & right.safe;
         let each = left.non_malleable & right.non_malleable;
         let non_malleable = each & (left.safe | right.safe);
@@ -401,13 +376,10 @@ impl Malleability {
     pub fn and_or(a: Self, b: Self, c: Self) -> Self
         ensures { result ≡ and_or a b c }
     {
-        let a_dissat = a.dissat;
-        let b_dissat = b.dissat;
-        let c_dissat = c.dissat;
-        let dissat = and_or_dissat(a.safe | b_dissat.is_none(), c_dissat);
+        let dissat = and_or_dissat(a.safe | b.dissat.is_none(), c.dissat);
         let a_or_b = a.safe | b.safe;
         let safe = a_or_b & c.safe;
-        let a_each = a.non_malleable & a_dissat.is_unique();
+        let a_each = a.non_malleable & a.dissat.is_unique();
         let each = a_each & (b.non_malleable & c.non_malleable);
         let non_malleable = each & (a_or_b | c.safe);
         Malleability {
@@ -422,11 +394,7 @@ impl Malleability {
 fn counted(n: usize, safe: bool) -> usize
     ensures { result ≡ counted n safe }
 {
-    if safe {
-        if n < 16 { n + 1 } else { n }
-    } else {
-        n
-    }
+    if safe && n < 16 { n + 1 } else { n }
 }
 
 impl MalleabilitySoFar {
@@ -434,9 +402,8 @@ impl MalleabilitySoFar {
     pub fn first(sub: Malleability) -> Self
         ensures { result ≡ mall_first sub }
     {
-        let dissat = sub.dissat;
         let safe_count = sub.safe as usize;
-        let all_unique = dissat.is_unique();
+        let all_unique = sub.dissat.is_unique();
         MalleabilitySoFar {
             safe_count,
             all_unique,
@@ -448,9 +415,8 @@ impl MalleabilitySoFar {
     pub fn next(self, sub: Malleability) -> Self
         ensures { result ≡ mall_next self sub }
     {
-        let dissat = sub.dissat;
         let safe_count = counted(self.safe_count, sub.safe);
-        let all_unique = self.all_unique & dissat.is_unique();
+        let all_unique = self.all_unique & sub.dissat.is_unique();
         let all_non_malleable = self.all_non_malleable & sub.non_malleable;
         MalleabilitySoFar {
             safe_count,

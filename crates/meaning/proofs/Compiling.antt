@@ -1,7 +1,7 @@
 -- What compile writes means its policy: the tree that it chooses is an entry of the root's table, and is read back from its bytes.
 use mathlib.Core.Bool.{Bool, true, false, cond, ◌&&◌, false≢true}
 use mathlib.Core.List.{List, []}
-use mathlib.Core.Option.{Option, none, some}
+use Rattle.std.specs.Prelude.{Option, None, Some}
 use mathlib.Core.Path.{◌≡◌, refl, sym, ap, ◌∙◌}
 use Prim.Native.Nat.{ℕ, ◌+◌}
 use borrow.Author.Tests.{leb-true}
@@ -104,5 +104,5 @@ compile-means context work_fits policy room bytes cost nodes below h = by-contex
     by-work c false h = never h
 
     by-context : (o : Option Context) → compile_in context work_fits room policy o ≡ compiled bytes cost nodes → MeansAlike policy bytes
-    by-context none h = never h
-    by-context (some c) h = by-work c work_fits h
+    by-context None h = never h
+    by-context (Some c) h = by-work c work_fits h

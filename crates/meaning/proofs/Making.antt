@@ -1,7 +1,10 @@
 -- What is made of candidates means what is made of their meanings: leaves, casts, pairs, triples and thresholds.
+use Rattle.types.specs.declared.«Type».{«Type»}
+use Rattle.correctness.specs.declared.TypeError.TheVariants as TypeError
+use Rattle.correctness.specs.declared.TypeError.{TypeError}
 use mathlib.Core.Bool.{Bool, true, false, cond, ◌&&◌, ◌||◌}
 use mathlib.Core.List.{List, [], ◌∷◌, map}
-use mathlib.Core.Option.{Option, none, some}
+use Rattle.std.specs.Prelude.{Option, None, Some, Result, Ok, Err}
 use mathlib.Core.Path.{◌≡◌, refl, sym, ap, ◌∙◌}
 use Prim.Native.Nat.{ℕ, zero, suc, ◌+◌, ◌<◌}
 use native.Mathlib.Omega.{arith}
@@ -12,14 +15,10 @@ use lib.Ieee.{Float}
 use Rattle.contexts.specs.declared.Context.{Context}
 use Rattle.contexts.specs.declared.Context.TheVariants.{Segwitv0, Tap}
 use Rattle.contexts.specs.Lists.{one}
-use Rattle.types.specs.declared.TypeResult.{TypeResult}
-use Rattle.types.specs.declared.TypeResult.TheVariants.{Ok, IllTyped}
 use Rattle.figures.specs.declared.ExtData.{ExtData}
 use Rattle.figures.specs.Validity.{from_ast}
 use Rattle.thresholds.specs.Threshold.{threshold}
 use Rattle.costs.specs.declared.Cost.{Cost}
-use Rattle.costs.specs.declared.Costed.{Costed}
-use Rattle.costs.specs.declared.Costed.TheVariants as Costed
 use Rattle.costs.specs.Rules as cost
 use Rattle.types.specs.TypeRules as type
 use Rattle.trees.specs.Fragment.{Fragment, False, True, Alt, Swap, Check, DupIf, Verify, NonZero, ZeroNotEqual}
@@ -36,9 +35,9 @@ use Rattle.meaning.proofs.Keeping.{Means}
 module _ (a : Assignment) where
   -- ---- casts
 
-  typed-means : {v : Bool} (r : TypeResult) (f : Fragment) (e : ExtData) (c : Cost) → tree_means a f ≡ v → IfSome (Means a v) (typed_as r f e c)
+  typed-means : {v : Bool} (r : Result «Type» TypeError) (f : Fragment) (e : ExtData) (c : Cost) → tree_means a f ≡ v → IfSome (Means a v) (typed_as r f e c)
   typed-means (Ok t) f e c h = some_is (record { means = h })
-  typed-means IllTyped f e c h = none_is
+  typed-means (Err TypeError.IllTyped) f e c h = none_is
 
   -- a cast means what it casts
   abbrev pub CastsMeaning : Cast → Type 0
@@ -61,10 +60,10 @@ module _ (a : Assignment) where
 
   -- ---- pairs and triples
 
-  made-means : {v : Bool} (r : TypeResult) (f : Fragment) (e : ExtData) (c : Costed) → tree_means a f ≡ v → IfMade (Means a v) (made_as r f e c)
-  made-means (Ok t) f e (Costed.Cost c) h = made_is (record { means = h })
-  made-means (Ok t) f e Costed.Missing h = missing_is
-  made-means IllTyped f e c h = passed_is
+  made-means : {v : Bool} (r : Result «Type» TypeError) (f : Fragment) (e : ExtData) (c : Option Cost) → tree_means a f ≡ v → IfMade (Means a v) (made_as r f e c)
+  made-means (Ok t) f e (Some c) h = made_is (record { means = h })
+  made-means (Ok t) f e None h = missing_is
+  made-means (Err TypeError.IllTyped) f e c h = passed_is
 
   -- a pair means its two sides, joined
   abbrev pub PairsMeaning : (Bool → Bool → Bool) → Pair → Type 0

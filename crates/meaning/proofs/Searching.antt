@@ -1,7 +1,7 @@
 -- Every search of a policy gives a table whose entries mean the policy, under any assignment: by induction on the policy.
 use mathlib.Core.Bool.{Bool, true, false, cond, not, ◌&&◌, ◌||◌, false≢true}
 use mathlib.Core.List.{List, [], ◌∷◌, ◌++◌}
-use mathlib.Core.Option.{Option, none, some}
+use Rattle.std.specs.Prelude.{Option, None, Some}
 use mathlib.Core.Path.{◌≡◌, refl, sym, ap, subst, ◌∙◌}
 use Prim.Native.Nat.{ℕ, zero, suc}
 use borrow.Author.Tests.{eqb-true}
@@ -11,8 +11,6 @@ use lib.Ieee.{Float}
 use Rattle.contexts.specs.declared.Context.{Context}
 use Rattle.contexts.specs.declared.Context.TheVariants.{Segwitv0, Tap}
 use Rattle.correctness.specs.declared.Base.TheVariants.{B, W}
-use Rattle.costs.specs.declared.DissatProb.{DissatProb}
-use Rattle.costs.specs.declared.DissatProb.TheVariants as Prob
 use Rattle.costs.specs.declared.Price.{Price}
 use Rattle.costs.specs.declared.Price.TheVariants as Price
 use Rattle.costs.specs.Arithmetic.{0·, 1·}
@@ -179,7 +177,7 @@ module _ (a : Assignment) (c : Context) where
   lookup-means q p (◌and◌ {x = t} {xs = ts} h hs) = by-test (same q t.policy && same_probs p t.at) refl (lookup-means q p hs)
     where
       by-test : (b : Bool) → same q t.policy && same_probs p t.at ≡ b → IfSome (AllMean a (policy_means a q)) (lookup q p ts) →
-          IfSome (AllMean a (policy_means a q)) (cond b (some t.table) (lookup q p ts))
+          IfSome (AllMean a (policy_means a q)) (cond b (Some t.table) (lookup q p ts))
       by-test true e r =
           let one : q ≡ t.policy = same-equal q t.policy (first_of _ _ e) in
           some_is (subst (λ q. AllMean a (policy_means a q) t.table) (sym one) h)
@@ -206,10 +204,10 @@ module _ (a : Assignment) (c : Context) where
   abbrev BodyMeans : Bool → Body → Type 0
   BodyMeans v body = (p : Probs) (g : Again) → AgainMeans v g → Keeps a (AllMean a v) (body p g)
 
-  again-means : {body : Body} (q : Policy) (p : Probs) (d : DissatProb) → BodyMeans (policy_means a q) body →
+  again-means : {body : Body} (q : Policy) (p : Probs) (d : Option Float) → BodyMeans (policy_means a q) body →
       AgainMeans (policy_means a q) (again_at q body p d)
-  again-means q p Prob.None h = alone_is
-  again-means q p (Prob.Some d) h = redo_is (remembering-keeps q (without p) (h (without p) alone alone_is))
+  again-means q p None h = alone_is
+  again-means q p (Some d) h = redo_is (remembering-keeps q (without p) (h (without p) alone alone_is))
 
   searching-keeps : (q : Policy) {body : Body} → BodyMeans (policy_means a q) body → (p : Probs) →
       Keeps a (AllMean a (policy_means a q)) (searching q body p)

@@ -1,58 +1,44 @@
 // The commands that move a policy to keys of 64 bits and back to keys of 32 bits.
 #![tactic(auto)]
 
+ghost use Rattle.movers.specs.Promises.{MovePromise};
+
 use command_line::{MOVED_OUTPUT_WORD, MOVED_WORD};
-use files::Loaded;
+use moving::Form;
 use record_files::{ROOM, load_records};
 use std::rt::{Env, Files};
 
 // The most bytes that a policy has: 64 records of 40, which 16 children take.
 const POLICY_ROOM: usize = 2_560;
 
-// Shows a policy that was moved, and writes it to the new file that the words name.
-fn show_and_save<R: Env + Files + Print + Eprint>(rt: &R, policy: &[u8]) {
-    report::show_moved(rt, policy.len() as u64);
-    files::save_word(rt, MOVED_OUTPUT_WORD, b"the path", policy);
+// Moves a policy to a form, by the entry for it.
+fn moved(form: Form, policy: &[u8], out: &mut [u8], bytes: &mut u64) -> u32
+    ensures { MovePromise form policy.now out.old result out.new bytes.new }
+{
+    match form {
+        Form::New => movers::claspwillow_to_new(policy, out, bytes),
+        Form::Old => movers::claspwillow_to_old(policy, out, bytes),
+    }
 }
 
-// Moves a policy to keys of 64 bits.
-fn new_of<R: Env + Files + Print + Eprint>(rt: &R, policy: &[u8]) {
-    let mut moved = [0u8; POLICY_ROOM];
+// Moves a policy to a form, shows it and writes it to the new file that the words name.
+fn show_moved<R: Env + Files + Print + Eprint>(rt: &R, form: Form, policy: &[u8]) {
+    let mut room = [0u8; POLICY_ROOM];
     let mut bytes = 0;
-    let number = movers::claspwillow_to_new(policy, &mut moved, &mut bytes);
+    let number = moved(form, policy, &mut room, &mut bytes);
     if number != 0 {
         report::show_refusal(rt, number);
         return;
     }
-    show_and_save(rt, &moved[..bytes as usize]);
+    report::show_moved(rt, bytes);
+    files::save_word(rt, MOVED_OUTPUT_WORD, b"the path", &room[..bytes as usize]);
 }
 
-// Moves a policy back to keys of 32 bits.
-fn old_of<R: Env + Files + Print + Eprint>(rt: &R, policy: &[u8]) {
-    let mut moved = [0u8; POLICY_ROOM];
-    let mut bytes = 0;
-    let number = movers::claspwillow_to_old(policy, &mut moved, &mut bytes);
-    if number != 0 {
-        report::show_refusal(rt, number);
-        return;
-    }
-    show_and_save(rt, &moved[..bytes as usize]);
-}
-
-// Moves the policy that the words name to keys of 64 bits.
-pub fn to_new<R: Env + Files + Input + Print + Eprint>(rt: &R) {
+// Moves the policy that the words name to a form: keys of 64 bits in the new one, of 32 bits in the old one.
+pub fn to_form<R: Env + Files + Input + Print + Eprint>(rt: &R, form: Form) {
     let mut policy = [0u8; ROOM];
-    let Loaded::Bytes(n) = load_records(rt, MOVED_WORD, &mut policy) else {
+    let Some(n) = load_records(rt, MOVED_WORD, &mut policy) else {
         return;
     };
-    new_of(rt, &policy[..n]);
-}
-
-// Moves the policy that the words name back to keys of 32 bits.
-pub fn to_old<R: Env + Files + Input + Print + Eprint>(rt: &R) {
-    let mut policy = [0u8; ROOM];
-    let Loaded::Bytes(n) = load_records(rt, MOVED_WORD, &mut policy) else {
-        return;
-    };
-    old_of(rt, &policy[..n]);
+    show_moved(rt, form, &policy[..n]);
 }

@@ -1,7 +1,7 @@
 -- A policy that was moved compiles as before, since compile sees of a policy's bytes what is read of them: specs/Laws.antt. Assumes nothing.
 use mathlib.Core.Bool.{Bool, cond}
 use mathlib.Core.List.{List}
-use mathlib.Core.Option.{Option, none, some}
+use Rattle.std.specs.Prelude.{Option, None, Some}
 use mathlib.Core.Path.{◌≡◌, refl, ap}
 use Prim.Native.Nat.{ℕ}
 use Rattle.contexts.specs.declared.Context.{Context}
@@ -19,8 +19,8 @@ unfolding compile
 same_outcome context work_fits left right room e = by-context (context_of context)
   where
     by-context : (c : Option Context) → compile_in context work_fits room left c ≡ compile_in context work_fits room right c
-    by-context none = refl
-    by-context (some c) = ap (λ (a : Answer Policy). cond work_fits (compile_read c room a) (refused_with BadWork)) e
+    by-context None = refl
+    by-context (Some c) = ap (λ (a : Answer Policy). cond work_fits (compile_read c room a) (refused_with BadWork)) e
 
 pub compiles-the-same : CompilesTheSame
 compiles-the-same form policy below space to e context work_fits room =

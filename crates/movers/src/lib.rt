@@ -10,14 +10,28 @@ ghost use Rattle.movers.specs.Promises.{MovePromise};
 
 use moving::Form;
 
+// Moves a policy to a form: the number of documents 01 and 02, the policy in `out`, and in `bytes` how many bytes it has, 0 on a refusal.
+fn move_to(form: Form, policy: &[u8], out: &mut [u8], bytes: &mut u64) -> u32
+    ensures { MovePromise form policy.now out.old result out.new bytes.new }
+{
+    match moving::move_policy(form, policy, out) {
+        Ok(moved) => {
+            *bytes = moved as u64;
+            0
+        }
+        Err(refusal) => {
+            *bytes = 0;
+            refusal.number()
+        }
+    }
+}
+
 // Moves a policy to the new form, in which keys have 64 bits: the number of document 01, the policy in `out`, and in `bytes` how many bytes it
 // has, 0 on a refusal.
 pub fn claspwillow_to_new(policy: &[u8], out: &mut [u8], bytes: &mut u64) -> u32
     ensures { MovePromise Form.New policy.now out.old result out.new bytes.new }
 {
-    let r = moving::move_policy(Form::New, policy, out);
-    *bytes = r.bytes;
-    r.number
+    move_to(Form::New, policy, out, bytes)
 }
 
 // Moves a policy to the old form, in which keys have 32 bits: the number of documents 01 and 02, the policy in `out`, and in `bytes` how many bytes
@@ -25,7 +39,5 @@ pub fn claspwillow_to_new(policy: &[u8], out: &mut [u8], bytes: &mut u64) -> u32
 pub fn claspwillow_to_old(policy: &[u8], out: &mut [u8], bytes: &mut u64) -> u32
     ensures { MovePromise Form.Old policy.now out.old result out.new bytes.new }
 {
-    let r = moving::move_policy(Form::Old, policy, out);
-    *bytes = r.bytes;
-    r.number
+    move_to(Form::Old, policy, out, bytes)
 }

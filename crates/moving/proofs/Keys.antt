@@ -8,13 +8,12 @@ use native.Mathlib.Omega.{arith}
 use borrow.Author.Tests.{le-leb}
 use lib.Dec.{eqb}
 use lib.ListN.{length}
-use lib.Seq.{sets, length-sets}
+use lib.Seq.{sets}
 use Rattle.words.specs.Bytes.{bytes_of, le_at, put_le}
 use Rattle.words.proofs.Bytes as bytes
 use Rattle.words.proofs.Bytes.{length-bytes, length-put}
 use Rattle.words.proofs.Stores.{sets-append}
 use Rattle.records.specs.Payloads.{written_kind, number_in}
-use Rattle.writing.specs.Writing.{record_of}
 use Rattle.writing.proofs.OneRecord.{length-record}
 use Rattle.moving.specs.declared.Form.{Form}
 use Rattle.moving.specs.declared.Form.TheVariants.{Old, New}

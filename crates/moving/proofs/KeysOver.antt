@@ -1,10 +1,10 @@
 -- The keys of a policy that is read are those of its records, so that 18 is given exactly if one of them is too large: specs/Laws.antt.
 -- Assumes nothing.
-use mathlib.Core.Path.{◌≡◌, refl, sym, ap, subst, ◌∙◌}
+use mathlib.Core.Path.{◌≡◌, refl, sym, ap, ◌∙◌}
 use mathlib.Core.Bool.{Bool, true, false, cond, ◌||◌, ◌&&◌}
 use mathlib.Core.List.{List, [], ◌∷◌, ◌++◌}
-use mathlib.Core.Option.{Option, none, some}
-use Prim.Native.Nat.{ℕ, zero, suc, ◌+◌, ◌<◌, ◌≤◌}
+use Rattle.std.specs.Prelude.{Option, None, Some}
+use Prim.Native.Nat.{ℕ, zero, suc, ◌≤◌}
 use native.Mathlib.Omega.{arith}
 use borrow.Author.Tests.{leb-true, eqb-true, eqb-false, le-ltb}
 use lib.Dec.{eqb, leb, ltb}
@@ -14,18 +14,17 @@ use Rattle.records.specs.Payloads as payload
 use Rattle.records.specs.Payloads.{Payload, number, written_kind, number_in, payload_of, children_of, number_of}
 use Rattle.records.specs.RecordForm.{kind_of, policy_payload}
 use Rattle.records.specs.declared.Shape.{Shape}
-use Rattle.records.specs.declared.Shape.TheVariants as Shape
 use Rattle.records.proofs.Laws.{policy-record, is-nothing, is_number, is-lock, is-two-children, is-weighted}
 use Rattle.records.proofs.Widths.{Long, key, one_key, more-keys, long-is, meant_itself, meant-one, meant-more}
 use Rattle.writing.specs.WellFormed.{AllBelow}
 use Rattle.writing.proofs.Kept.{no-some, below-drop}
-use Rattle.policies.specs.Policy.{Policy, Policies, from_list, depth}
+use Rattle.policies.specs.Policy.{Policy, from_list, depth}
 use Rattle.policies.specs.Forms.{made, nth}
-use Rattle.policies.specs.Reading.{Answer, refused, done, ◌>>=◌, or_refuse, refuse_if, Slots, Next, slot, if_there, without, the_policy, those, written}
+use Rattle.policies.specs.Reading.{refused, done, ◌>>=◌, or_refuse, refuse_if, Slots, Next, slot, if_there, without, the_policy, those, written}
 use Rattle.policies.specs.Reading.{bad_policy, policy_too_large, max_depth, max_records, root_of, finish, read_from, read_policy}
 use Rattle.policies.proofs.Ranges.{each}
 use Rattle.moving.specs.declared.Form.TheVariants.{Old, New}
-use Rattle.moving.specs.Moving.{moves, too_large, records_of, any, moved_policy, move, key_too_large}
+use Rattle.moving.specs.Moving.{moves, too_large, records_of, any, moved_policy, key_too_large}
 use Rattle.moving.specs.Laws.{key_over, any_over, fitting, ToOld}
 use Rattle.moving.proofs.Keys.{large-key, large-other}
 use Rattle.moving.proofs.Records.{large, or-false, or_assoc}
@@ -71,24 +70,24 @@ many-over (x ∷ cs) = ap (λ (b : Bool). key_over x || b) (many-over cs)
 abbrev over : ℕ → Bool
 over n = ltb 4294967295 n
 
-module _ (s : List ℕ) {p : Payload} (e : policy_payload s ≡ some p) (k left right : ℕ) (cs : List Policy) (many : length cs ≡ length (children_of p)) where
+module _ (s : List ℕ) {p : Payload} (e : policy_payload s ≡ Some p) (k left right : ℕ) (cs : List Policy) (many : length cs ≡ length (children_of p)) where
   -- a record is of its kind's shape
-  shaped : (kind : ℕ) {shape : Shape} → shape_of kind ≡ some shape → kind_of s ≡ kind → payload_of shape s ≡ some p
+  shaped : (kind : ℕ) {shape : Shape} → shape_of kind ≡ Some shape → kind_of s ≡ kind → payload_of shape s ≡ Some p
   shaped kind known is = rw (is, known) at (policy-record s e).1
 
-  empty : (kind : ℕ) → shape_of kind ≡ some Shape.Nothing → kind_of s ≡ kind → false ≡ any_in cs
+  empty : (kind : ℕ) → shape_of kind ≡ Some Shape.Nothing → kind_of s ≡ kind → false ≡ any_in cs
   empty kind known is = none_over cs (many ∙ ap (λ (x : Payload). length (children_of x)) (is-nothing s (shaped kind known is)))
 
-  numbered : (kind : ℕ) → shape_of kind ≡ some Shape.Number → kind_of s ≡ kind → false ≡ any_in cs
+  numbered : (kind : ℕ) → shape_of kind ≡ Some Shape.Number → kind_of s ≡ kind → false ≡ any_in cs
   numbered kind known is = none_over cs (many ∙ ap (λ (x : Payload). length (children_of x)) (is_number s (shaped kind known is)))
 
-  locked : (kind : ℕ) → shape_of kind ≡ some Shape.Lock → kind_of s ≡ kind → false ≡ any_in cs
+  locked : (kind : ℕ) → shape_of kind ≡ Some Shape.Lock → kind_of s ≡ kind → false ≡ any_in cs
   locked kind known is = none_over cs (many ∙ ap (λ (x : Payload). length (children_of x)) (is-lock s (shaped kind known is)))
 
-  paired : (kind : ℕ) → shape_of kind ≡ some Shape.TwoChildren → kind_of s ≡ kind → key_over (nth cs 0) || key_over (nth cs 1) ≡ any_in cs
+  paired : (kind : ℕ) → shape_of kind ≡ Some Shape.TwoChildren → kind_of s ≡ kind → key_over (nth cs 0) || key_over (nth cs 1) ≡ any_in cs
   paired kind known is = two-over cs (many ∙ ap (λ (x : Payload). length (children_of x)) (is-two-children s (shaped kind known is)))
 
-  weighed : (kind : ℕ) → shape_of kind ≡ some Shape.Weighted → kind_of s ≡ kind → key_over (nth cs 0) || key_over (nth cs 1) ≡ any_in cs
+  weighed : (kind : ℕ) → shape_of kind ≡ Some Shape.Weighted → kind_of s ≡ kind → key_over (nth cs 0) || key_over (nth cs 1) ≡ any_in cs
   weighed kind known is = two-over cs (many ∙ ap (λ (x : Payload). length (children_of x)) (is-weighted s (shaped kind known is)))
 
   -- its own key and those of its children
@@ -162,7 +161,7 @@ own_key : (r : List ℕ) (fine : Fine r) → (eqb (kind_of r) 3 && over (number_
 unfolding kind_of
 own_key r fine = by-new (moves Old r) refl
   where
-    some_is : {x y : Payload} → some x ≡ some y → x ≡ y
+    some_is : {x y : Payload} → Some x ≡ Some y → x ≡ y
     some_is e = cc
 
     is-old : (t : Bool) → eqb (kind_of r) 3 ≡ t → moves Old r ≡ false → (t && over (number_of fine.payload)) ≡ false
@@ -185,8 +184,8 @@ own_key r fine = by-new (moves Old r) refl
 -- ---- slots
 
 unfoldable over_slot : Option Policy → Bool
-over_slot (some p) = key_over p
-over_slot none = false
+over_slot (Some p) = key_over p
+over_slot None = false
 
 unfoldable over_slots : Slots → Bool
 over_slots [] = false
@@ -198,20 +197,20 @@ or_swap true false c = refl
 or_swap false true c = refl
 or_swap false false c = refl
 
-over-added : (xs : Slots) (p : Policy) → over_slots (xs ++ (some p ∷ [])) ≡ over_slots xs || key_over p
+over-added : (xs : Slots) (p : Policy) → over_slots (xs ++ (Some p ∷ [])) ≡ over_slots xs || key_over p
 unfolding over_slots over_slot
 over-added [] p = or-false (key_over p)
 over-added (x ∷ xs) p = ap (λ (b : Bool). over_slot x || b) (over-added xs p) ∙ sym (or_assoc (over_slot x) (over_slots xs) (key_over p))
 
-over-set : (slots : Slots) (j : ℕ) {x : Policy} → slot slots j ≡ some x → over_slots slots ≡ key_over x || over_slots (set slots j none)
+over-set : (slots : Slots) (j : ℕ) {x : Policy} → slot slots j ≡ Some x → over_slots slots ≡ key_over x || over_slots (set slots j None)
 unfolding over_slots over_slot
 over-set [] j e = absurd (no-some e)
 over-set (y ∷ slots) zero {x} e = ap (λ (o : Option Policy). over_slot o || over_slots slots) e
 over-set (y ∷ slots) (suc j) {x} e =
-    ap (λ (b : Bool). over_slot y || b) (over-set slots j e) ∙ or_swap (over_slot y) (key_over x) (over_slots (set slots j none))
+    ap (λ (b : Bool). over_slot y || b) (over-set slots j e) ∙ or_swap (over_slot y) (key_over x) (over_slots (set slots j None))
 
 -- a slot that is there once another is taken was there before
-kept : (slots : Slots) (i j : ℕ) {x : Policy} → slot (set slots i none) j ≡ some x → slot slots j ≡ some x
+kept : (slots : Slots) (i j : ℕ) {x : Policy} → slot (set slots i None) j ≡ Some x → slot slots j ≡ Some x
 kept [] i j e = e
 kept (y ∷ slots) zero zero e = absurd (no-some e)
 kept (y ∷ slots) zero (suc j) e = e
@@ -220,74 +219,74 @@ kept (y ∷ slots) (suc i) (suc j) e = kept slots i j e
 
 data Present (slots : Slots) : List ℕ → Type 0 where
   all_there : Present slots []
-  one-there : {j : ℕ} {js : List ℕ} (x : Policy) → slot slots j ≡ some x → Present slots js → Present slots (j ∷ js)
+  one-there : {j : ℕ} {js : List ℕ} (x : Policy) → slot slots j ≡ Some x → Present slots js → Present slots (j ∷ js)
 
-present-before : (slots : Slots) (i : ℕ) (js : List ℕ) → Present (set slots i none) js → Present slots js
+present-before : (slots : Slots) (i : ℕ) (js : List ℕ) → Present (set slots i None) js → Present slots js
 present-before slots i [] h = all_there
 present-before slots i (j ∷ js) (one-there x e h) = one-there x (kept slots i j e) (present-before slots i js h)
 
 -- what a step of taking tells
 record Took (js : List ℕ) (slots : Slots) (j : ℕ) (left : Slots) : Type 0 where
   pub first : Policy
-  pub there : slot slots j ≡ some first
-  pub others : without js (set slots j none) ≡ some left
+  pub there : slot slots j ≡ Some first
+  pub others : without js (set slots j None) ≡ Some left
 
-took : (j : ℕ) (js : List ℕ) (slots : Slots) {left : Slots} → without (j ∷ js) slots ≡ some left → Took js slots j left
+took : (j : ℕ) (js : List ℕ) (slots : Slots) {left : Slots} → without (j ∷ js) slots ≡ Some left → Took js slots j left
 unfolding without
 took j js slots {left} e = by-slot (slot slots j) refl e
   where
-    by-slot : (o : Option Policy) → slot slots j ≡ o → if_there o (without js (set slots j none)) ≡ some left → Took js slots j left
-    by-slot (some x) s e = record { first = x; there = s; others = e }
-    by-slot none s e = absurd (no-some e)
+    by-slot : (o : Option Policy) → slot slots j ≡ o → if_there o (without js (set slots j None)) ≡ Some left → Took js slots j left
+    by-slot (Some x) s e = record { first = x; there = s; others = e }
+    by-slot None s e = absurd (no-some e)
 
-present : (js : List ℕ) (slots : Slots) {left : Slots} → without js slots ≡ some left → Present slots js
+present : (js : List ℕ) (slots : Slots) {left : Slots} → without js slots ≡ Some left → Present slots js
 present [] slots e = all_there
 present (j ∷ js) slots e =
     let t = took j js slots e in
-    one-there t.first t.there (present-before slots j js (present js (set slots j none) t.others))
+    one-there t.first t.there (present-before slots j js (present js (set slots j None) t.others))
 
-same-those : (slots : Slots) (i : ℕ) (js : List ℕ) → Present (set slots i none) js → any_in (those js (set slots i none)) ≡ any_in (those js slots)
+same-those : (slots : Slots) (i : ℕ) (js : List ℕ) → Present (set slots i None) js → any_in (those js (set slots i None)) ≡ any_in (those js slots)
 unfolding any_in
 same-those slots i [] h = refl
 same-those slots i (j ∷ js) (one-there x e h) =
-    let now : the_policy (slot (set slots i none) j) ≡ x = ap the_policy e in
+    let now : the_policy (slot (set slots i None) j) ≡ x = ap the_policy e in
     let before : the_policy (slot slots j) ≡ x = ap the_policy (kept slots i j e) in
     rw (now, before, same-those slots i js h)
 
-taken-over : (js : List ℕ) (slots : Slots) {left : Slots} → without js slots ≡ some left → over_slots slots ≡ any_in (those js slots) || over_slots left
+taken-over : (js : List ℕ) (slots : Slots) {left : Slots} → without js slots ≡ Some left → over_slots slots ≡ any_in (those js slots) || over_slots left
 unfolding any_in without
 taken-over [] slots e = ap over_slots (some_is e)
   where
-    some_is : {x y : Slots} → some x ≡ some y → x ≡ y
+    some_is : {x y : Slots} → Some x ≡ Some y → x ≡ y
     some_is e = cc
 taken-over (j ∷ js) slots {left} e =
     let t = took j js slots e in
-    let again = taken-over js (set slots j none) t.others in
+    let again = taken-over js (set slots j None) t.others in
     let first : the_policy (slot slots j) ≡ t.first = ap the_policy t.there in
     over-set slots j t.there
     ∙ ap (λ (b : Bool). key_over t.first || b) again
-    ∙ ap (λ (b : Bool). key_over t.first || (b || over_slots left)) (same-those slots j js (present js (set slots j none) t.others))
+    ∙ ap (λ (b : Bool). key_over t.first || (b || over_slots left)) (same-those slots j js (present js (set slots j None) t.others))
     ∙ sym (or_assoc (key_over t.first) (any_in (those js slots)) (over_slots left))
     ∙ ap (λ (x : Policy). (key_over x || any_in (those js slots)) || over_slots left) (sym first)
 
-root_over : (slots : Slots) {q : Policy} → root_of slots ≡ some q → over_slots slots ≡ key_over q
+root_over : (slots : Slots) {q : Policy} → root_of slots ≡ Some q → over_slots slots ≡ key_over q
 unfolding root_of over_slots over_slot
 root_over [] e = absurd (no-some e)
 root_over (x ∷ []) {q} e = or-false (over_slot x) ∙ ap over_slot e
-root_over (none ∷ x ∷ slots) e = root_over (x ∷ slots) e
-root_over (some y ∷ x ∷ slots) e = absurd (no-some e)
+root_over (None ∷ x ∷ slots) e = root_over (x ∷ slots) e
+root_over (Some y ∷ x ∷ slots) e = absurd (no-some e)
 
 -- ---- all records
 
-finished : (slots : Slots) {q : Policy} → finish slots ≡ done q → root_of slots ≡ some q
+finished : (slots : Slots) {q : Policy} → finish slots ≡ done q → root_of slots ≡ Some q
 unfolding finish
 finished slots {q} e =
     let a = then-done (or_refuse bad_policy (root_of slots)) (λ root. cond (leb (depth root) max_depth) (done root) (refused policy_too_large)) e in
-    given (root_of slots) a.1 ∙ ap some (within (leb (depth a.0) max_depth) a.2)
+    given (root_of slots) a.1 ∙ ap Some (within (leb (depth a.0) max_depth) a.2)
   where
-    given : (o : Option Policy) {r : Policy} → or_refuse bad_policy o ≡ done r → o ≡ some r
-    given (some x) e = cc
-    given none e = absurd (not_done e)
+    given : (o : Option Policy) {r : Policy} → or_refuse bad_policy o ≡ done r → o ≡ Some r
+    given (Some x) e = cc
+    given None e = absurd (not_done e)
 
     within : (b : Bool) {r : Policy} → cond b (done r) (refused policy_too_large) ≡ done q → r ≡ q
     within true e = cc

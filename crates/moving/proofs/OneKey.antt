@@ -2,11 +2,11 @@
 use mathlib.Core.Path.{◌≡◌, refl, sym, ap, subst, ◌∙◌}
 use mathlib.Core.Bool.{Bool, true, false, cond}
 use mathlib.Core.List.{List, [], ◌∷◌, ◌++◌, append-nil}
-use mathlib.Core.Option.{Option, none, some}
+use Rattle.std.specs.Prelude.{Option, Some}
 use Prim.Native.Nat.{ℕ, ◌+◌, ◌*◌, ◌/◌, ◌%◌, ◌^◌, ◌<◌, ◌≤◌}
 use native.Mathlib.Omega.{arith}
-use borrow.Author.Tests.{le-leb, eqb-true, eq-eqb, ne_eqb, ltb-false, le-ltb}
-use lib.Dec.{leb, ltb, eqb}
+use borrow.Author.Tests.{le-leb, eqb-true, eq-eqb, ltb-false, le-ltb}
+use lib.Dec.{ltb, eqb}
 use lib.ListN.{length, take, drop, length-append, length-drop, take-append-drop}
 use lib.Seq.{length-take-le, take-append-le, take_all, drop-drop}
 use Rattle.words.specs.Bytes.{little, bytes_of, le_at}
@@ -18,16 +18,15 @@ use Rattle.records.specs.Payloads.{Payload, number, written_kind, width, number_
 use Rattle.records.specs.RecordForm.{when_whole, record_length, kind_of, policy_payload}
 use Rattle.records.specs.declared.Shape.TheVariants as Shape
 use Rattle.records.proofs.Laws.{length-bounds, of-policy, is_number}
-use Rattle.writing.specs.Writing.{record_of}
 use Rattle.writing.specs.WellFormed.{AllBelow}
 use Rattle.writing.proofs.Rows.{number-at}
-use Rattle.writing.proofs.OneRecord.{Wide, length-record, record-whole, record-kind, number-back}
+use Rattle.writing.proofs.OneRecord.{Wide, length-record, record-whole, number-back}
 use Rattle.writing.proofs.Kept.{below-take, below-drop}
 use Rattle.writing.proofs.WellRead.{number-below}
 use Rattle.moving.specs.declared.Form.{Form}
 use Rattle.moving.specs.declared.Form.TheVariants.{Old, New}
-use Rattle.moving.specs.Moving.{key_kind, key_width, key_record, other, exceeds, moves, moved, too_large}
-use Rattle.moving.proofs.Keys.{length-key, moved-key, moved_other, large-key, large-other}
+use Rattle.moving.specs.Moving.{key_kind, key_width, key_record, other, moves, moved, too_large}
+use Rattle.moving.proofs.Keys.{moved-key, moved_other, large-key, large-other}
 
 -- ---- the bytes of a number that is read are those that stand there
 
@@ -58,19 +57,19 @@ front-number r t h =
     rw (le-leb 2 (length (r ++ t)) (omega (arith, length-append r t)), le-leb 2 (length r) h, take-append-le 2 r t h)
 
 -- a record is found before whatever follows it
-pub whole-front : (r t : List ℕ) → Whole r → record_length (r ++ t) ≡ some (length r)
+pub whole-front : (r t : List ℕ) → Whole r → record_length (r ++ t) ≡ Some (length r)
 whole-front r t w =
     let says : u16 (r ++ t) 0 ≡ length r = front-number r t (omega (arith, w.long)) ∙ w.says in
     rw (says, le-leb 4 (length r) w.long, le-leb (length r) (length (r ++ t)) (omega (arith, length-append r t)))
 
-length-is : (s : List ℕ) {n : ℕ} → record_length s ≡ some n → u16 s 0 ≡ n
+length-is : (s : List ℕ) {n : ℕ} → record_length s ≡ Some n → u16 s 0 ≡ n
 length-is s {n} e = by-test (between 4 (length s) (u16 s 0)) e
   where
-    by-test : (t : Bool) → when_whole t (u16 s 0) ≡ some n → u16 s 0 ≡ n
+    by-test : (t : Bool) → when_whole t (u16 s 0) ≡ Some n → u16 s 0 ≡ n
     by-test true e = cc
     by-test false e = cc
 
-pub whole-taken : (s : List ℕ) (len : ℕ) → record_length s ≡ some len → Whole (take len s)
+pub whole-taken : (s : List ℕ) (len : ℕ) → record_length s ≡ Some len → Whole (take len s)
 whole-taken s len e =
     let b = length-bounds s e in
     let long : length (take len s) ≡ len = length-take-le len s b.1 in
@@ -87,7 +86,7 @@ pub record Fine (r : List ℕ) : Type 0 where
   pub below : AllBelow 256 r
   pub whole : Whole r
   pub payload : Payload
-  pub fits : policy_payload r ≡ some payload
+  pub fits : policy_payload r ≡ Some payload
 
 -- what a key's kind is
 
@@ -99,7 +98,7 @@ key-wide : (form : Form) → Wide (key_kind form) (key_width form)
 key-wide Old = record { is-u16 = omega arith; is = refl }
 key-wide New = record { is-u16 = omega arith; is = refl }
 
-key-shape : shape_of 3 ≡ some Shape.Number
+key-shape : shape_of 3 ≡ Some Shape.Number
 unfolding shape_of look_up
 key-shape = refl
 
@@ -109,11 +108,11 @@ number-payload r k =
     let of-kind : is_policy_kind (kind_of r) ≡ true = rw k in
     of-policy r of-kind (ap shape_of k ∙ key-shape)
 
-number-long : (r : List ℕ) {p : Payload} → payload_of Shape.Number r ≡ some p → length r ≡ 4 + width r
+number-long : (r : List ℕ) {p : Payload} → payload_of Shape.Number r ≡ Some p → length r ≡ 4 + width r
 unfolding payload_of
 number-long r {p} e = by-test (eqb (length r) (4 + width r)) refl e
   where
-    by-test : (t : Bool) → eqb (length r) (4 + width r) ≡ t → when t (number (number_in r)) ≡ some p → length r ≡ 4 + width r
+    by-test : (t : Bool) → eqb (length r) (4 + width r) ≡ t → when t (number (number_in r)) ≡ Some p → length r ≡ 4 + width r
     by-test true t e = eqb-true (length r) (4 + width r) t
     by-test false t e = cc
 
@@ -127,11 +126,11 @@ module _ (form : Form) (r : List ℕ) (kind : written_kind r ≡ key_kind form) 
   its-width = ap (λ (n : ℕ). cond (is_long n) 8 4) kind ∙ (key-wide form).is
 
   module _ (fine : Fine r) where
-    shaped : payload_of Shape.Number r ≡ some fine.payload
+    shaped : payload_of Shape.Number r ≡ Some fine.payload
     shaped = sym (number-payload r kind-three) ∙ fine.fits
 
-    pub payload-is : policy_payload r ≡ some (number (number_in r))
-    payload-is = fine.fits ∙ ap some (is_number r shaped)
+    pub payload-is : policy_payload r ≡ Some (number (number_in r))
+    payload-is = fine.fits ∙ ap Some (is_number r shaped)
 
     key-long : length r ≡ 4 + key_width form
     key-long = number-long r shaped ∙ ap (λ (n : ℕ). 4 + n) its-width
@@ -173,7 +172,7 @@ module _ (form : Form) (n : ℕ) where
   key-whole =
       let payload : List ℕ = bytes_of (key_width form) n in
       let few : length payload < 65532 = small form in
-      let found : record_length (key_record form n ++ []) ≡ some (4 + length payload) = record-whole (key_kind form) payload [] few in
+      let found : record_length (key_record form n ++ []) ≡ Some (4 + length payload) = record-whole (key_kind form) payload [] few in
       let long : length (key_record form n) ≡ 4 + length payload = length-record (key_kind form) payload in
       record {
         says = length-is (key_record form n) (rw (append-nil (key_record form n)) at found) ∙ sym long;
@@ -185,10 +184,10 @@ module _ (form : Form) (n : ℕ) where
       small New = omega (arith, length-bytes 8 n)
 
   module _ (fits : n < 256 ^ key_width form) where
-    back : payload_of Shape.Number (key_record form n) ≡ some (number n)
+    back : payload_of Shape.Number (key_record form n) ≡ Some (number n)
     back = number-back (key_kind form) (key_width form) (key-wide form) n fits
 
-    pub key-payload : policy_payload (key_record form n) ≡ some (number n)
+    pub key-payload : policy_payload (key_record form n) ≡ Some (number n)
     key-payload = number-payload (key_record form n) (kind-three form (key_record form n) key-kind) ∙ back
 
     pub key-number : number_in (key_record form n) ≡ n

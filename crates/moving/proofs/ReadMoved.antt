@@ -2,15 +2,14 @@
 use mathlib.Core.Path.{◌≡◌, refl, sym, ap, subst, ◌∙◌}
 use mathlib.Core.Bool.{Bool, true, false, ◌||◌}
 use mathlib.Core.List.{List, [], ◌∷◌, ◌++◌, map}
-use mathlib.Core.Option.{Option, none, some}
-use Prim.Native.Nat.{ℕ, zero, suc, ◌+◌, ◌<◌, ◌≤◌}
+use Rattle.std.specs.Prelude.{Option, None, Some}
+use Prim.Native.Nat.{ℕ, zero, suc, ◌≤◌}
 use native.Mathlib.Omega.{arith}
 use lib.ListN.{length, take, drop, length-append, take-append-drop}
-use lib.Seq.{length-take-le, take-append_seam, drop-append_seam}
+use lib.Seq.{take-append_seam, drop-append_seam}
 use Rattle.words.specs.Bytes.{le_at}
 use Rattle.records.specs.Payloads.{Payload, children_of}
 use Rattle.records.specs.RecordForm.{record_length, kind_of, policy_payload}
-use Rattle.records.proofs.Laws.{length-bounds}
 use Rattle.writing.specs.WellFormed.{AllBelow}
 use Rattle.writing.proofs.Kept.{below-take, below-drop}
 use Rattle.policies.specs.Policy.{Policy}
@@ -26,9 +25,9 @@ use Rattle.moving.proofs.OneKey.{Whole, Fine, whole-front, whole-taken, moved-wh
 pub not_done : {A : Type 0} {n : ℕ} {x : A} → refused n ≡ done x → ⊥
 not_done e = let z : ◌≡◌ {A = ℕ} 0 1 = cc in omega arith
 
-given-some : {A : Type 0} (n : ℕ) (o : Option A) {a : A} → or_refuse n o ≡ done a → o ≡ some a
-given-some n (some b) e = cc
-given-some n none e = absurd (not_done e)
+given-some : {A : Type 0} (n : ℕ) (o : Option A) {a : A} → or_refuse n o ≡ done a → o ≡ Some a
+given-some n (Some b) e = cc
+given-some n None e = absurd (not_done e)
 
 pub then-done : {A B : Type 0} (r : Answer A) (next : A → Answer B) {b : B} → (r >>= next) ≡ done b → (a : A) × (r ≡ done a) × (next a ≡ done b)
 then-done (done a) next e = (a, refl, e)
@@ -42,13 +41,13 @@ not-refused n false e = (refl, cc)
 
 pub record Taken (slots : Slots) (s : List ℕ) (next : Next) : Type 0 where
   pub len : ℕ
-  pub found : record_length s ≡ some len
+  pub found : record_length s ≡ Some len
   pub payload : Payload
-  pub fits : policy_payload (take len s) ≡ some payload
+  pub fits : policy_payload (take len s) ≡ Some payload
   pub left : Slots
-  pub kept : without (children_of payload) slots ≡ some left
+  pub kept : without (children_of payload) slots ≡ Some left
   pub weighs : weighs_nothing (kind_of (take len s)) payload ≡ false
-  pub is : next ≡ record { len = len; slots = left ++ (some (written (kind_of (take len s)) payload slots) ∷ []) }
+  pub is : next ≡ record { len = len; slots = left ++ (Some (written (kind_of (take len s)) payload slots) ∷ []) }
 
 pub taken : (slots : Slots) (s : List ℕ) {next : Next} → read_record slots s ≡ done next → Taken slots s next
 unfolding read_record read_whole
@@ -58,11 +57,11 @@ taken slots s {next} e =
     let whole : List ℕ = take len s in
     let b = then-done (or_refuse bad_policy (policy_payload whole))
     (λ p. or_refuse bad_policy (without (children_of p) slots)
-    >>= λ left. refuse_if zero_weight (weighs_nothing (kind_of whole) p) (record { len = len; slots = left ++ (some (written (kind_of whole) p slots) ∷ []) }))
+    >>= λ left. refuse_if zero_weight (weighs_nothing (kind_of whole) p) (record { len = len; slots = left ++ (Some (written (kind_of whole) p slots) ∷ []) }))
     a.2 in
     let p : Payload = b.0 in
     let c = then-done (or_refuse bad_policy (without (children_of p) slots))
-    (λ left. refuse_if zero_weight (weighs_nothing (kind_of whole) p) (record { len = len; slots = left ++ (some (written (kind_of whole) p slots) ∷ []) }))
+    (λ left. refuse_if zero_weight (weighs_nothing (kind_of whole) p) (record { len = len; slots = left ++ (Some (written (kind_of whole) p slots) ∷ []) }))
     b.2 in
     let d = not-refused zero_weight (weighs_nothing (kind_of whole) p) c.2 in
     record {
@@ -77,15 +76,15 @@ taken slots s {next} e =
     }
 
 -- the same of a whole record that others follow
-pub read-there : (slots : Slots) (r t : List ℕ) {p : Payload} {left : Slots} → Whole r → policy_payload r ≡ some p → without (children_of p) slots ≡ some left
+pub read-there : (slots : Slots) (r t : List ℕ) {p : Payload} {left : Slots} → Whole r → policy_payload r ≡ Some p → without (children_of p) slots ≡ Some left
     → weighs_nothing (kind_of r) p ≡ false
-    → read_record slots (r ++ t) ≡ done (record { len = length r; slots = left ++ (some (written (kind_of r) p slots) ∷ []) })
+    → read_record slots (r ++ t) ≡ done (record { len = length r; slots = left ++ (Some (written (kind_of r) p slots) ∷ []) })
 unfolding read_record read_whole
 read-there slots r t w p k z = rw (whole-front r t w, take-append_seam r t, p, k, z)
 
 -- ---- all records
 
-empty-none : record_length [] ≡ none
+empty-none : record_length [] ≡ None
 unfolding le_at
 empty-none = refl
 
@@ -174,11 +173,11 @@ module _ (form : Form) where
     pub reads : read_from most slots (rest form most s) ≡ done q
     pub each : records_from most (rest form most s) ≡ map (moved form) (records_from most s)
 
-  first_rest : (most : ℕ) (s : List ℕ) {len : ℕ} → record_length s ≡ some len → rest form (suc most) s ≡ moved form (take len s) ++ rest form most (drop len s)
+  first_rest : (most : ℕ) (s : List ℕ) {len : ℕ} → record_length s ≡ Some len → rest form (suc most) s ≡ moved form (take len s) ++ rest form most (drop len s)
   unfolding rest in_order
   first_rest most s e = rw (next most s e)
 
-  pub first-large : (most : ℕ) (s : List ℕ) {len : ℕ} → record_length s ≡ some len
+  pub first-large : (most : ℕ) (s : List ℕ) {len : ℕ} → record_length s ≡ Some len
       → large form (suc most) s ≡ too_large form (take len s) || large form most (drop len s)
   unfolding large any
   first-large most s e = rw (next most s e)
@@ -214,13 +213,13 @@ module _ (form : Form) where
       let whole : Whole r' = moved-whole form r fine in
       let all : rest form (suc most) s ≡ r' ++ t = first_rest most s one.found in
       let some_bytes : 1 ≤ length (r' ++ t) = omega (arith, length-append r' t, whole.long) in
-      let payload : policy_payload r' ≡ some one.payload = moved-payload form r fine small ∙ one.fits in
+      let payload : policy_payload r' ≡ Some one.payload = moved-payload form r fine small ∙ one.fits in
       let kind : kind_of r' ≡ kind_of r = moved-kind form r fine in
       let weighs : weighs_nothing (kind_of r') one.payload ≡ false = ap (λ (k : ℕ). weighs_nothing k one.payload) kind ∙ one.weighs in
       let read = read-there slots r' t whole payload one.kept weighs in
-      let same : one.left ++ (some (written (kind_of r') one.payload slots) ∷ []) ≡ after.slots =
-      ap (λ (k : ℕ). one.left ++ (some (written k one.payload slots) ∷ [])) kind ∙ ap (λ (x : Next). x.slots) (sym one.is) in
-      let found : record_length (r' ++ t) ≡ some (length r') = whole-front r' t whole in
+      let same : one.left ++ (Some (written (kind_of r') one.payload slots) ∷ []) ≡ after.slots =
+      ap (λ (k : ℕ). one.left ++ (Some (written k one.payload slots) ∷ [])) kind ∙ ap (λ (x : Next). x.slots) (sym one.is) in
+      let found : record_length (r' ++ t) ≡ Some (length r') = whole-front r' t whole in
       record {
         reads =
             ap (read_from (suc most) slots) all ∙ begins most slots (r' ++ t) some_bytes

@@ -1,29 +1,29 @@
 -- The records of some bytes, one by one, and what is still to come of measuring and of writing them. Assumes nothing.
-use mathlib.Core.Path.{◌≡◌, refl, sym, ap, subst, ◌∙◌}
+use mathlib.Core.Path.{◌≡◌, refl, sym, ap, ◌∙◌}
 use mathlib.Core.Bool.{Bool, true, false, ◌||◌}
-use mathlib.Core.List.{List, [], ◌∷◌, ◌++◌, map}
-use mathlib.Core.Option.{Option, none, some}
+use mathlib.Core.List.{List, [], ◌∷◌, ◌++◌, map, append_assoc}
+use Rattle.refusals.specs.declared.Refusal.TheVariants as Refusal
+use Rattle.std.specs.Prelude.{Option, None, Some, Ok, Err}
 use Prim.Native.Nat.{ℕ, zero, suc, ◌+◌, ◌-◌, ◌*◌, ◌<◌, ◌≤◌}
 use native.Mathlib.Omega.{arith}
-use lib.ListN.{length, get_or, set, take, drop, length-append, length-drop, length-set}
-use lib.Seq.{sets, length-sets, drop-drop, drop-cons, drop-length, length-take-le}
+use lib.ListN.{length, take, drop, length-append, length-drop}
+use lib.Seq.{sets, sets-eq, length-sets, drop-drop, length-take-le}
 use Rattle.records.specs.Numbers.{or_zero}
 use Rattle.records.specs.RecordForm.{record_length}
 use Rattle.records.proofs.Laws.{length-bounds}
 use Rattle.walk.specs.TreeRecords.{length_from}
 use Rattle.moving.specs.declared.Form.{Form}
-use Rattle.moving.specs.declared.Extent.{Extent}
 use Rattle.moving.specs.Moving.{moved, too_large, records_from, records_of, in_order, any, moved_policy}
-use Rattle.moving.specs.Answers.{extent_of}
+use Rattle.moving.specs.Answers.{result_answer, extent_of}
 use Rattle.moving.proofs.Keys.{moved-empty, empty-fits, moved-few, then-sets}
 
 -- ---- the records of some bytes
 
-pub next : (most : ℕ) (s : List ℕ) {len : ℕ} → record_length s ≡ some len → records_from (suc most) s ≡ take len s ∷ records_from most (drop len s)
+pub next : (most : ℕ) (s : List ℕ) {len : ℕ} → record_length s ≡ Some len → records_from (suc most) s ≡ take len s ∷ records_from most (drop len s)
 unfolding records_from
 next most s e = rw e
 
-pub no_more : (most : ℕ) (s : List ℕ) → record_length s ≡ none → records_from most s ≡ []
+pub no_more : (most : ℕ) (s : List ℕ) → record_length s ≡ None → records_from most s ≡ []
 unfolding records_from
 no_more zero s e = refl
 no_more (suc most) s e = rw e
@@ -33,8 +33,8 @@ pub inside : (s : List ℕ) (at : ℕ) → at ≤ length s → at + length_from 
 inside s at h = by_length (record_length (drop at s)) refl
   where
     by_length : (o : Option ℕ) → record_length (drop at s) ≡ o → at + or_zero o ≤ length s
-    by_length (some n) e = omega (arith, (length-bounds (drop at s) e).1, length-drop at s)
-    by_length none e = omega arith
+    by_length (Some n) e = omega (arith, (length-bounds (drop at s) e).1, length-drop at s)
+    by_length None e = omega arith
 
 -- the part of the bytes up to where it ends
 part : (s : List ℕ) (at n : ℕ) → take (at + n - at) (drop at s) ≡ take n (drop at s)
@@ -59,8 +59,8 @@ module _ (form : Form) where
     where
       by_length : (o : Option ℕ) → record_length s ≡ o
           → in_order (map (moved form) (records_from (suc most) s)) ≡ moved form (take (or_zero o) s) ++ in_order (map (moved form) (records_from most (drop (or_zero o) s)))
-      by_length (some n) e = rw (next most s e)
-      by_length none e = rw (no_more (suc most) s e, no_more most s e, moved-empty form)
+      by_length (Some n) e = rw (next most s e)
+      by_length None e = rw (no_more (suc most) s e, no_more most s e, moved-empty form)
 
   pub large-next : (most : ℕ) (s : List ℕ)
       → large (suc most) s ≡ too_large form (take (or_zero (record_length s)) s) || large most (drop (or_zero (record_length s)) s)
@@ -69,8 +69,8 @@ module _ (form : Form) where
     where
       by_length : (o : Option ℕ) → record_length s ≡ o
           → any (too_large form) (records_from (suc most) s) ≡ too_large form (take (or_zero o) s) || any (too_large form) (records_from most (drop (or_zero o) s))
-      by_length (some n) e = rw (next most s e)
-      by_length none e = rw (no_more (suc most) s e, no_more most s e, empty-fits form)
+      by_length (Some n) e = rw (next most s e)
+      by_length None e = rw (no_more (suc most) s e, no_more most s e, empty-fits form)
 
   rest-none : (s : List ℕ) → rest 0 s ≡ []
   unfolding rest in_order records_from
@@ -90,19 +90,19 @@ or_assoc false b c = refl
 
 -- ---- measuring, after i records, which end before `at`
 
-pub record MeasureInv (form : Form) (policy : List ℕ) (bytes : ℕ) (over : Bool) (at i : ℕ) : Type 0 where
+pub record MeasureInv (form : Form) (policy : List ℕ) (bytes at i : ℕ) : Type 0 where
   pub few : i ≤ 64
   pub within : at ≤ length policy
   pub small : bytes ≤ at + 12 * i
   pub come : bytes + length (rest form (64 - i) (drop at policy)) ≡ length (moved_policy form policy)
-  pub told : over || large form (64 - i) (drop at policy) ≡ any (too_large form) (records_of policy)
+  pub told : large form (64 - i) (drop at policy) ≡ any (too_large form) (records_of policy)
 
 module _ (form : Form) (policy : List ℕ) where
-  pub measure-starts : MeasureInv form policy 0 false 0 0
+  pub measure-starts : MeasureInv form policy 0 0 0
   unfolding rest large moved_policy records_of
   measure-starts = record { few = omega arith; within = omega arith; small = omega arith; come = omega arith; told = refl }
 
-  module _ {bytes : ℕ} {over : Bool} {at i : ℕ} (inv : MeasureInv form policy bytes over at i) where
+  module _ {bytes at i : ℕ} (inv : MeasureInv form policy bytes at i) where
     pub end-inside : (end : ℕ) → end ≡ at + length_from policy at → (at ≤ end) × (end ≤ length policy)
     end-inside end e =
         let h = inside policy at inv.within in
@@ -116,51 +116,62 @@ module _ (form : Form) (policy : List ℕ) where
         length-take-le (end - at) (drop at policy) (omega (arith, length-drop at policy)) in
         omega (arith, is, moved-few form (take (end - at) (drop at policy)))
 
-    pub measure-goes-on : i < 64 → (end : ℕ) → end ≡ at + length_from policy at
-        → (n : ℕ) → n ≡ length (moved form (take (end - at) (drop at policy)))
-        → (t : Bool) → t ≡ too_large form (take (end - at) (drop at policy)) → (over' : Bool) → over' ≡ over || t
-        → MeasureInv form policy (bytes + n) over' end (i + 1)
-    measure-goes-on l end e n is t told over' either =
-        let few = one-few end e n is in
-        let h = inside policy at inv.within in
-        let k : 64 - i ≡ suc (64 - (i + 1)) = omega arith in
-        let r = take (length_from policy at) (drop at policy) in
-        let same : take (end - at) (drop at policy) ≡ r = ap (λ (x : ℕ). take (x - at) (drop at policy)) e ∙ part policy at (length_from policy at) in
-        let onward : drop (length_from policy at) (drop at policy) ≡ drop end policy = drop-drop (length_from policy at) at policy ∙ ap (λ (x : ℕ). drop x policy) (sym e) in
-        let first : rest form (64 - i) (drop at policy) ≡ moved form r ++ rest form (64 - (i + 1)) (drop end policy) =
-        ap (λ (x : ℕ). rest form x (drop at policy)) k ∙ rest-next form (64 - (i + 1)) (drop at policy)
-        ∙ ap (λ (x : List ℕ). moved form r ++ rest form (64 - (i + 1)) x) onward in
-        let first-large : large form (64 - i) (drop at policy) ≡ too_large form r || large form (64 - (i + 1)) (drop end policy) =
-        ap (λ (x : ℕ). large form x (drop at policy)) k ∙ large-next form (64 - (i + 1)) (drop at policy)
-        ∙ ap (λ (x : List ℕ). too_large form r || large form (64 - (i + 1)) x) onward in
-        record {
-          few = omega arith;
-          within = omega arith;
-          small = omega (arith, inv.small);
-          come = omega (
-            arith,
-            inv.come,
-            ap length first,
-            length-append (moved form r) (rest form (64 - (i + 1)) (drop end policy)),
-            is ∙ ap (λ (x : List ℕ). length (moved form x)) same,
-          );
-          told =
-              ap (λ (b : Bool). b || large form (64 - (i + 1)) (drop end policy)) either
-              ∙ or_assoc over t (large form (64 - (i + 1)) (drop end policy))
-              ∙ ap (λ (b : Bool). over || (b || large form (64 - (i + 1)) (drop end policy))) (told ∙ ap (too_large form) same)
-              ∙ ap (λ (b : Bool). over || b) (sym first-large)
-              ∙ inv.told;
-        }
+    module _ (l : i < 64) (end : ℕ) (e : end ≡ at + length_from policy at) where
+      abbrev whole : List ℕ
+      whole = take (length_from policy at) (drop at policy)
 
-    pub measure-ends : 64 ≤ i → record { bytes = bytes; large = over } ≡ extent_of form policy
+      same : take (end - at) (drop at policy) ≡ whole
+      same = ap (λ (x : ℕ). take (x - at) (drop at policy)) e ∙ part policy at (length_from policy at)
+
+      onward : drop (length_from policy at) (drop at policy) ≡ drop end policy
+      onward = drop-drop (length_from policy at) at policy ∙ ap (λ (x : ℕ). drop x policy) (sym e)
+
+      first-large : large form (64 - i) (drop at policy) ≡ too_large form whole || large form (64 - (i + 1)) (drop end policy)
+      first-large =
+          let k : 64 - i ≡ suc (64 - (i + 1)) = omega arith in
+          ap (λ (x : ℕ). large form x (drop at policy)) k ∙ large-next form (64 - (i + 1)) (drop at policy)
+          ∙ ap (λ (x : List ℕ). too_large form whole || large form (64 - (i + 1)) x) onward
+
+      module _ {t : Bool} (told : t ≡ too_large form (take (end - at) (drop at policy))) where
+        found : any (too_large form) (records_of policy) ≡ t || large form (64 - (i + 1)) (drop end policy)
+        found = sym inv.told ∙ first-large ∙ ap (λ (b : Bool). b || large form (64 - (i + 1)) (drop end policy)) (sym (told ∙ ap (too_large form) same))
+
+        pub measure-stops : t ≡ true → result_answer (Err Refusal.KeyTooLarge) ≡ extent_of form policy
+        unfolding extent_of
+        measure-stops is = rw (found, is)
+
+        pub measure-goes-on : t ≡ false → (n : ℕ) → n ≡ length (moved form (take (end - at) (drop at policy)))
+            → MeasureInv form policy (bytes + n) end (i + 1)
+        measure-goes-on none n is =
+            let few = one-few end e n is in
+            let h = inside policy at inv.within in
+            let k : 64 - i ≡ suc (64 - (i + 1)) = omega arith in
+            let first : rest form (64 - i) (drop at policy) ≡ moved form whole ++ rest form (64 - (i + 1)) (drop end policy) =
+            ap (λ (x : ℕ). rest form x (drop at policy)) k ∙ rest-next form (64 - (i + 1)) (drop at policy)
+            ∙ ap (λ (x : List ℕ). moved form whole ++ rest form (64 - (i + 1)) x) onward in
+            record {
+              few = omega arith;
+              within = omega arith;
+              small = omega (arith, inv.small);
+              come = omega (
+                arith,
+                inv.come,
+                ap length first,
+                length-append (moved form whole) (rest form (64 - (i + 1)) (drop end policy)),
+                is ∙ ap (λ (x : List ℕ). length (moved form x)) same,
+              );
+              told = sym (rw none at found);
+            }
+
+    pub measure-ends : 64 ≤ i → result_answer (Ok bytes) ≡ extent_of form policy
     unfolding extent_of
     measure-ends l =
         let k : 64 - i ≡ 0 = omega (arith, inv.few) in
         let none_left : rest form (64 - i) (drop at policy) ≡ [] = ap (λ (x : ℕ). rest form x (drop at policy)) k ∙ rest-none form (drop at policy) in
-        let none-large : large form (64 - i) (drop at policy) ≡ false = ap (λ (x : ℕ). large form x (drop at policy)) k ∙ large-none form (drop at policy) in
+        let none-large : any (too_large form) (records_of policy) ≡ false =
+        sym inv.told ∙ ap (λ (x : ℕ). large form x (drop at policy)) k ∙ large-none form (drop at policy) in
         let b : bytes ≡ length (moved_policy form policy) = omega (arith, inv.come, ap length none_left) in
-        let o : over ≡ any (too_large form) (records_of policy) = sym (or-false over) ∙ ap (λ (x : Bool). over || x) (sym none-large) ∙ inv.told in
-        rw (b, o)
+        rw (b, none-large)
 
 -- ---- writing, after i records, which end before `from` and are written before `to`
 
@@ -224,37 +235,9 @@ module _ (form : Form) (policy out₀ : List ℕ) where
       let none_left : rest form (64 - i) (drop from policy) ≡ [] = ap (λ (x : ℕ). rest form x (drop from policy)) k ∙ rest-none form (drop from policy) in
       ap (sets out to) (sym none_left) ∙ inv.come
 
--- ---- some bytes, one by one
+-- ---- some bytes, copied
 
-pub record CopyInv (bytes out₀ : List ℕ) (at : ℕ) (out : List ℕ) (j : ℕ) : Type 0 where
-  pub upto : j ≤ length bytes
-  pub long : length out ≡ length out₀
-  pub come : sets out (at + j) (drop j bytes) ≡ sets out₀ at bytes
-
-module _ (bytes out₀ : List ℕ) (at : ℕ) where
-  pub copy-starts : CopyInv bytes out₀ at out₀ 0
-  copy-starts =
-      let e : at + 0 ≡ at = omega arith in
-      record { upto = omega arith; long = refl; come = rw e }
-
-  module _ {out : List ℕ} {j : ℕ} (inv : CopyInv bytes out₀ at out j) where
-    pub copy-goes-on : j < length bytes → (out' : List ℕ) → out' ≡ set out (at + j) (get_or bytes j 0) → CopyInv bytes out₀ at out' (j + 1)
-    copy-goes-on l out' is =
-        let place : at + (j + 1) ≡ suc (at + j) = omega arith in
-        let next_one : j + 1 ≡ suc j = omega arith in
-        record {
-          upto = omega arith;
-          long = ap length is ∙ length-set out (at + j) (get_or bytes j 0) ∙ inv.long;
-          come =
-              ap (λ (x : ℕ). sets out' x (drop (j + 1) bytes)) place
-              ∙ ap (λ (x : ℕ). sets out' (suc (at + j)) (drop x bytes)) next_one
-              ∙ ap (λ (x : List ℕ). sets x (suc (at + j)) (drop (suc j) bytes)) is
-              ∙ ap (sets out (at + j)) (sym (drop-cons bytes j 0 l))
-              ∙ inv.come;
-        }
-
-    pub copy-ends : length bytes ≤ j → out ≡ sets out₀ at bytes
-    copy-ends l =
-        let e : j ≡ length bytes = omega (arith, inv.upto) in
-        let none : drop j bytes ≡ [] = ap (λ (x : ℕ). drop x bytes) e ∙ drop-length bytes in
-        ap (sets out (at + j)) (sym none) ∙ inv.come
+pub copied-over : (out bytes part : List ℕ) (at k : ℕ) → part ≡ bytes → k ≡ length bytes → at + length bytes ≤ length out
+    → take at out ++ (part ++ drop k (drop at out)) ≡ sets out at bytes
+copied-over out bytes part at k is n h =
+    rw (is, n, drop-drop (length bytes) at out) (sym (append_assoc (take at out) bytes (drop (at + length bytes) out)) ∙ sym (sets-eq bytes out at h))

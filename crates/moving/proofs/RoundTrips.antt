@@ -1,17 +1,17 @@
 -- What holds of moving, but for which keys are too large: specs/Laws.antt. Assumes nothing.
 use mathlib.Core.Path.{◌≡◌, refl, sym, ap, ◌∙◌}
-use mathlib.Core.Bool.{Bool, true, false, ◌||◌}
+use mathlib.Core.Bool.{Bool, false}
 use mathlib.Core.List.{List, [], ◌∷◌, map}
 use Prim.Native.Nat.{ℕ, ◌≤◌}
-use borrow.Author.Tests.{le-ltb, ltb-false}
+use borrow.Author.Tests.{le-ltb}
 use lib.Dec.{ltb}
 use lib.ListN.{length}
 use Rattle.writing.specs.WellFormed.{AllBelow}
 use Rattle.policies.specs.Policy.{Policy}
-use Rattle.policies.specs.Reading.{Answer, refused, done, ◌>>=◌, refuse_if, read_policy, max_records}
+use Rattle.policies.specs.Reading.{done, ◌>>=◌, refuse_if, read_policy, max_records}
 use Rattle.moving.specs.declared.Form.{Form}
 use Rattle.moving.specs.declared.Form.TheVariants.{Old, New}
-use Rattle.moving.specs.Moving.{moves, moved, too_large, records_from, records_of, in_order, any, moved_policy, move, key_too_large, output_too_small}
+use Rattle.moving.specs.Moving.{moves, moved, too_large, records_of, in_order, any, moved_policy, move, key_too_large, output_too_small}
 use Rattle.moving.specs.Laws.{RefusedAsRead, fitting, ToNew, SamePolicy, AllMoved, OldNewOld, NewOldNew}
 use Rattle.moving.proofs.Records.{rest, large}
 use Rattle.moving.proofs.OneKey.{Fine, moved-moves, record-back, new-fits-old, record-again, fits-new}

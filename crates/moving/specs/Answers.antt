@@ -1,14 +1,19 @@
 -- What the parts of moving answer: the definitions of Moving, as values of this crate's types. Assumes nothing.
-use Rattle.std.specs.Prelude.{List, ◌++◌, ◌≡◌, ℕ, ltb, length, drop}
+use Rattle.refusals.specs.declared.Refusal.{Refusal}
+use Rattle.refusals.specs.Numbers as refusal
+use Rattle.std.specs.Prelude.{List, ◌++◌, ◌≡◌, ℕ, ltb, length, drop, Result, Ok, Err}
 use Rattle.policies.specs.Reading.{Answer, refused, done, ◌>>=◌, refuse_if}
 use Rattle.moving.specs.declared.Form.{Form}
-use Rattle.moving.specs.declared.Extent.{Extent}
-use Rattle.moving.specs.declared.Given.{Given}
 use Rattle.moving.specs.Moving.{records_of, any, too_large, moved_policy, key_too_large, output_too_small}
 
--- how many bytes the moved policy has, and whether a key is too large
-unfoldable pub extent_of : Form → List ℕ → Extent
-extent_of form policy = record { bytes = length (moved_policy form policy); large = any (too_large form) (records_of policy) }
+-- how many bytes there are, or the number of a refusal
+abbrev pub result_answer : Result ℕ Refusal → Answer ℕ
+result_answer (Ok bytes) = done bytes
+result_answer (Err r) = refused (refusal.number_of r)
+
+-- how many bytes the moved policy has, unless a key is too large
+unfoldable pub extent_of : Form → List ℕ → Answer ℕ
+extent_of form policy = refuse_if key_too_large (any (too_large form) (records_of policy)) (length (moved_policy form policy))
 
 -- a policy that is read, moved
 unfoldable pub fitted : Form → (policy : List ℕ) → (room : ℕ) → Answer (List ℕ)
@@ -29,7 +34,11 @@ abbrev pub output_after : Answer (List ℕ) → List ℕ → List ℕ
 output_after (refused n) out = out
 output_after (done to) out = to ++ drop (length to) out
 
-pub record Moves (answer : Answer (List ℕ)) (out : List ℕ) (r : Given) (left : List ℕ) : Type 0 where
-  pub gives : r.number ≡ number_of answer
-  pub counts : r.bytes ≡ bytes_of answer
+-- how many bytes an answer has, or the number of its refusal
+abbrev pub counted : Answer (List ℕ) → Answer ℕ
+counted (refused n) = refused n
+counted (done to) = done (length to)
+
+pub record Moves (answer : Answer (List ℕ)) (out : List ℕ) (r : Result ℕ Refusal) (left : List ℕ) : Type 0 where
+  pub counts : result_answer r ≡ counted answer
   pub writes : left ≡ output_after answer out

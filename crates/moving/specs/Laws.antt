@@ -1,5 +1,5 @@
 -- What holds of moving: document 02, R-3. A policy's bytes are numbers below 256.
-use Rattle.std.specs.Prelude.{Bool, true, false, cond, ◌||◌, List, ◌≡◌, ℕ, ◌≤◌, ltb, length}
+use Rattle.std.specs.Prelude.{Bool, false, cond, ◌||◌, List, ◌≡◌, ℕ, ◌≤◌, ltb, length}
 use Rattle.writing.specs.WellFormed.{AllBelow}
 use Rattle.policies.specs.Policy.{Policy, Policies, end, ◌▹◌, Unsatisfiable, Trivial, Key, Lock, Hash, And, Or, Thresh}
 use Rattle.policies.specs.Reading.{Answer, refused, done, refuse_if, read_policy}

@@ -1,7 +1,6 @@
 -- What moving a policy is: document 02, R-3. Kinds 3 and 19 are a Key with a number of 32 and of 64 bits; all other records stay, and so does the
 -- order. Assumes nothing.
-use Rattle.std.specs.Prelude.{Bool, true, false, cond, ◌||◌, ◌&&◌, List, [], ◌∷◌, ◌++◌, map, ℕ, zero, suc, eqb, ltb, length, take, drop}
-use Rattle.std.proofs.Math.Option.{Option, none, some}
+use Rattle.std.specs.Prelude.{Bool, false, cond, ◌||◌, ◌&&◌, List, [], ◌∷◌, ◌++◌, map, ℕ, zero, suc, eqb, ltb, length, take, drop, Option, None, Some}
 use Rattle.words.specs.Bytes.{bytes_of}
 use Rattle.records.specs.Payloads.{written_kind, number_in}
 use Rattle.records.specs.RecordForm.{record_length}
@@ -50,8 +49,8 @@ too_large form s = moves form s && exceeds form (number_in s)
 -- ---- a policy
 
 abbrev pub first_and : Option ℕ → List ℕ → (List ℕ → List (List ℕ)) → List (List ℕ)
-first_and (some len) s others = take len s ∷ others (drop len s)
-first_and none s others = []
+first_and (Some len) s others = take len s ∷ others (drop len s)
+first_and None s others = []
 
 -- the records that some bytes begin with, at most so many
 unfoldable pub records_from : (most : ℕ) → List ℕ → List (List ℕ)

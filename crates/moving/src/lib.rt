@@ -4,27 +4,16 @@
 // `specs/Laws.antt`.
 #![tactic(auto)]
 
-ghost use Rattle.std.specs.Prelude.{◌≡◌, ◌||◌, ◌+◌, ◌≤◌, length};
+ghost use Rattle.std.specs.Prelude.{◌≡◌, ◌+◌, ◌≤◌, length};
 ghost use Rattle.std.proofs.lemmas.List.Edits.{sets};
 ghost use Rattle.words.specs.Bytes.{bytes_of};
 ghost use Rattle.moving.specs.Moving.{key_kind, key_width, key_record, other, moves, exceeds, too_large, moved, moved_policy, move};
-ghost use Rattle.moving.specs.Answers.{extent_of, fitted, Moves};
+ghost use Rattle.moving.specs.Answers.{result_answer, extent_of, fitted, Moves};
 
-use policies::ReadPolicy;
+use refusals::Refusal;
 
 // The most records that a policy has.
 const MAX_RECORDS: usize = 64;
-
-// Document 01's numbers of a policy that is refused and of an output that is too small, and document 02's of a key that is too large.
-const BAD_POLICY: u32 = 3;
-
-const ZERO_WEIGHT: u32 = 4;
-
-const POLICY_TOO_LARGE: u32 = 5;
-
-const OUTPUT_TOO_SMALL: u32 = 13;
-
-const KEY_TOO_LARGE: u32 = 18;
 
 // The largest key of an old policy.
 const MAX_OLD_KEY: u64 = 4_294_967_295;
@@ -34,20 +23,6 @@ const MAX_OLD_KEY: u64 = 4_294_967_295;
 pub enum Form {
     Old,
     New,
-}
-
-// How many bytes a policy has once it is moved, and whether a key is too large for it.
-#[derive(Clone, Copy)]
-pub struct Extent {
-    pub bytes: usize,
-    pub large: bool,
-}
-
-// The number of an outcome and the bytes that it wrote.
-#[derive(Clone, Copy)]
-pub struct Given {
-    pub number: u32,
-    pub bytes: u64,
 }
 
 // The kind of a key's record.
@@ -101,10 +76,7 @@ fn exceeds(form: Form, number: u64) -> bool
 fn too_large(form: Form, whole: &[u8]) -> bool
     ensures { result ≡ too_large form whole.now }
 {
-    if moves(form, whole) {
-        return exceeds(form, records::number_of(whole));
-    }
-    false
+    moves(form, whole) && exceeds(form, records::number_of(whole))
 }
 
 // How many bytes a record has once it is moved.
@@ -117,29 +89,21 @@ fn moved_length(form: Form, whole: &[u8]) -> usize
     whole.len()
 }
 
-// Either of two.
-fn either(a: bool, b: bool) -> bool
-    ensures { result ≡ a || b }
-{
-    a || b
-}
-
-// How many bytes a policy has once it is moved, and whether a key is too large for that. Past the policy's end its records are empty.
-fn measure(form: Form, policy: &[u8]) -> Extent
-    ensures { result ≡ extent_of form policy.now }
+// How many bytes a policy has once it is moved, unless a key is too large for that. Past the policy's end its records are empty.
+fn measure(form: Form, policy: &[u8]) -> Result<usize, Refusal>
+    ensures { result_answer result ≡ extent_of form policy.now }
 {
     let mut bytes = 0;
-    let mut large = false;
     let mut at = 0;
-    let mut i = 0;
-    while i < MAX_RECORDS {
+    for i in 0..MAX_RECORDS {
         let end = walk::record_end(policy, at);
+        if too_large(form, &policy[at..end]) {
+            return Err(Refusal::KeyTooLarge);
+        }
         bytes += moved_length(form, &policy[at..end]);
-        large = either(large, too_large(form, &policy[at..end]));
         at = end;
-        i += 1;
     }
-    Extent { bytes, large }
+    Ok(bytes)
 }
 
 // Writes the number of a key at `at`. An old key has no more than the low 32 bits.
@@ -172,11 +136,7 @@ fn put_bytes(bytes: &[u8], out: &mut [u8], at: usize)
     requires { at + length bytes.now ≤ length out.old }
     ensures { out.new ≡ sets out.old at bytes.now }
 {
-    let mut j = 0;
-    while j < bytes.len() {
-        out[at + j] = bytes[j];
-        j += 1;
-    }
+    out[at..at + bytes.len()].copy_from_slice(bytes);
 }
 
 // Writes a record, moved, at `at`, and says where it ends.
@@ -200,52 +160,30 @@ fn put_policy(form: Form, policy: &[u8], out: &mut [u8])
 {
     let mut from = 0;
     let mut to = 0;
-    let mut i = 0;
-    while i < MAX_RECORDS {
+    for i in 0..MAX_RECORDS {
         let end = walk::record_end(policy, from);
         to = put_moved(form, &policy[from..end], out, to);
         from = end;
-        i += 1;
     }
-}
-
-// The answer of a refusal.
-fn refused(number: u32) -> Given
-    ensures { (result.number ≡ number) × (result.bytes ≡ 0) }
-{
-    Given { number, bytes: 0 }
 }
 
 // Moves a policy that is read.
-fn move_read(form: Form, policy: &[u8], out: &mut [u8]) -> Given
+fn move_read(form: Form, policy: &[u8], out: &mut [u8]) -> Result<usize, Refusal>
     ensures { Moves (fitted form policy.now (length out.old)) out.old result out.new }
 {
-    let extent = measure(form, policy);
-    let large = extent.large;
-    if large {
-        return refused(KEY_TOO_LARGE);
+    let bytes = measure(form, policy)?;
+    if out.len() < bytes {
+        return Err(Refusal::OutputTooSmall);
     }
-    let bytes = extent.bytes;
-    if bytes <= out.len() {
-        put_policy(form, policy, out);
-        return Given {
-            number: 0,
-            bytes: bytes as u64,
-        };
-    }
-    refused(OUTPUT_TOO_SMALL)
+    put_policy(form, policy, out);
+    Ok(bytes)
 }
 
-// Moves a policy to a form: the number of documents 01 and 02, and the moved policy in the output's first bytes.
-pub fn move_policy(form: Form, policy: &[u8], out: &mut [u8]) -> Given
+// Moves a policy to a form: how many bytes it has, which are the output's first bytes, or the refusal of documents 01 and 02.
+pub fn move_policy(form: Form, policy: &[u8], out: &mut [u8]) -> Result<usize, Refusal>
     ensures { Moves (move form policy.now (length out.old)) out.old result out.new }
 {
     let mut pol = [0u64; 2560];
-    match policies::read_policy(policy, &mut pol) {
-        ReadPolicy::BadPolicy => refused(BAD_POLICY),
-        ReadPolicy::ZeroWeight => refused(ZERO_WEIGHT),
-        ReadPolicy::PolicyTooLarge => refused(POLICY_TOO_LARGE),
-        ReadPolicy::BadArray => refused(BAD_POLICY),
-        ReadPolicy::Root(_) => move_read(form, policy, out),
-    }
+    policies::read_policy(policy, &mut pol)?;
+    move_read(form, policy, out)
 }

@@ -15,6 +15,7 @@ use malleability::Malleability;
 pub fn kind_name(kind: u16) -> [u8; 12]
     ensures { result ≡ in_places 12 (name_in kinds kind) }
 {
+    // A kind stays a number: a record or a node holds one, and the contract answers on every number.
     match kind {
         32 => *b"False       ",
         33 => *b"True        ",
@@ -51,6 +52,7 @@ pub fn kind_name(kind: u16) -> [u8; 12]
 pub fn answer_name(number: u32) -> [u8; 16]
     ensures { result ≡ in_places 16 (name_in answers number) }
 {
+    // A number stays one: the contract names the numbers that no entry answers, too.
     match number {
         0 => *b"done            ",
         1 => *b"BadContext      ",
@@ -136,10 +138,8 @@ pub fn close_up(text: &mut [u8]) -> usize
     ensures text_after { take result text.new ≡ without_spaces text.old }
 {
     let mut n = 0;
-    let mut i = 0;
-    while i < text.len() {
+    for i in 0..text.len() {
         let b = text[i];
-        i += 1;
         if b == b' ' {
             continue;
         }

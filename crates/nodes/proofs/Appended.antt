@@ -1,4 +1,5 @@
 -- What adding a node or a row leaves, and what work memory with False and True alone holds. Assumes nothing.
+use Rattle.std.specs.Prelude.{Some}
 use mathlib.Core.Path.{◌≡◌, refl, sym, ap, ◌∙◌, subst}
 use mathlib.Core.List.{List}
 use mathlib.Core.Logic.{◌⊎◌, inl, inr}
@@ -13,7 +14,6 @@ use Rattle.figures.proofs.Entering.{false-entered, true-entered}
 use Rattle.candidates.specs.declared.Candidate.{Candidate}
 use Rattle.candidates.specs.Leaves.{false_candidate, true_candidate}
 use Rattle.definition.specs.Tables.{Table}
-use Rattle.nodes.specs.declared.Added.TheVariants.{At}
 use Rattle.memory.specs.Layout.{work_words, max_nodes, max_rows, rows_from, word_at, node_count, table_count, row_count}
 use Rattle.nodes.specs.Words.{node_at, row_child}
 use Rattle.nodes.specs.Views.{seen_as, first_nodes, seen, offered}
@@ -102,7 +102,7 @@ pub fresh-fits : {m : List ℕ} {x : Candidate} → Fresh m x → (x.kind < 0x40
 fresh-fits {x} fresh = (fresh.kind, entered-fits max_figure x.ext (omega arith) fresh.entered)
 
 pub added : {m₀ m₁ m : List ℕ} {x : Candidate} {ws : List ℕ} → Holds m₀ → Fresh m₀ x → (node_count m₀ ≡ max_nodes → ⊥) → WordsAre x ws
-    → m₁ ≡ sets m₀ (8 * node_count m₀ + 8) ws → m ≡ set m₁ 0 (node_count m₀ + 1) → Adds m₀ m x (At (node_count m₀))
+    → m₁ ≡ sets m₀ (8 * node_count m₀ + 8) ws → m ≡ set m₁ 0 (node_count m₀ + 1) → Adds m₀ m x (Some (node_count m₀))
 added {m₀} {m₁} {m} {x} {ws} holds fresh left words e₁ e =
     let room : node_count m₀ < max_nodes = omega (arith, holds.few, left) in
     at refl room

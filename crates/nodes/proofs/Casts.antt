@@ -1,14 +1,16 @@
 -- A cast of a node, as the code makes it, stands for the definition's cast of what the node stands for, and it may be offered to a table.
 -- Assumes nothing.
+use Rattle.candidates.specs.declared.CastError.{CastError}
+use Rattle.types.specs.declared.«Type».{«Type»}
+use Rattle.correctness.specs.declared.TypeError.{TypeError}
 use mathlib.Core.Path.{◌≡◌, refl, sym, ◌∙◌, ap}
 use mathlib.Core.Bool.{Bool, true, ◌&&◌}
 use mathlib.Core.List.{List, [], ◌∷◌}
-use mathlib.Core.Option.{Option, none, some}
+use Rattle.std.specs.Prelude.{Option, None, Some, Result, Ok, Err}
 use Prim.Native.Nat.{ℕ, zero, suc, ◌<◌}
 use lib.ListN.{drop}
 use lib.Seq.{drop-cons}
 use Rattle.contexts.specs.declared.Context.{Context}
-use Rattle.types.specs.declared.TypeResult.{TypeResult}
 use Rattle.figures.specs.declared.ExtData.{ExtData}
 use Rattle.costs.specs.declared.Cost.{Cost}
 use Rattle.trees.specs.Fragment.{Fragment, False, True, Alt, Swap, Check, DupIf, Verify, NonZero, ZeroNotEqual, AndV, OrI}
@@ -16,8 +18,6 @@ use Rattle.trees.specs.Tree.{find}
 use Rattle.definition.specs.Candidates as definition
 use Rattle.definition.specs.Candidates.{Candidate, typed_as, cast_no}
 use Rattle.candidates.specs.declared.Candidate as code
-use Rattle.candidates.specs.declared.CastResult.{CastResult}
-use Rattle.candidates.specs.declared.CastResult.TheVariants.{Cast, IllTyped, Unknown}
 use Rattle.candidates.specs.Casts as casts
 use Rattle.candidates.specs.Casts.{Row, Children, cast_as, cast_by, cast_from, cast_of}
 use Rattle.candidates.proofs.Kept.{cast-kept}
@@ -30,22 +30,21 @@ use Rattle.nodes.proofs.Seen.{Shows, TreeIs, seen-fields, seen_false, seen_true}
 use Rattle.nodes.proofs.Offers.{both_true, plain_kind, plain-offers}
 
 -- what the code's cast stands for
-abbrev pub cast_seen : (pol m : List ℕ) → CastResult → Option Candidate
-cast_seen pol m (Cast y) = some (offered pol m y)
-cast_seen pol m IllTyped = none
-cast_seen pol m Unknown = none
+abbrev pub cast_seen : (pol m : List ℕ) → Result code.Candidate CastError → Option Candidate
+cast_seen pol m (Ok y) = Some (offered pol m y)
+cast_seen pol m (Err e) = None
 
 -- each cast in turn
 pub casts-from : (c : Context) (n : ℕ) → n < 10 → drop n (definition.all_casts c) ≡ cast_no c n ∷ drop (suc n) (definition.all_casts c)
-casts-from c n h = drop-cons (definition.all_casts c) n (λ x. none) h
+casts-from c n h = drop-cons (definition.all_casts c) n (λ x. None) h
 
 -- ---- what a cast stands for
 
 as-typed : (pol m : List ℕ) (kind : ℕ) (children : Children) (f : Fragment) → TreeIs pol m kind children.first children.second 0 f
-    → (r : TypeResult) (d : ExtData) (c : Cost) → cast_seen pol m (cast_as kind children r d c) ≡ typed_as r f d c
+    → (r : Result «Type» TypeError) (d : ExtData) (c : Cost) → cast_seen pol m (cast_as kind children r d c) ≡ typed_as r f d c
 unfolding seen_as
-as-typed pol m kind children f is (TypeResult.Ok t) d c = ap (λ (g : Fragment). some (definition.candidate g t d c)) (is t d c)
-as-typed pol m kind children f is TypeResult.IllTyped d c = refl
+as-typed pol m kind children f is (Ok t) d c = ap (λ (g : Fragment). Some (definition.candidate g t d c)) (is t d c)
+as-typed pol m kind children f is (Err TypeError.IllTyped) d c = refl
 
 -- any cast, by its rules and its tree
 row_seen : (pol m : List ℕ) (e : ℕ) (s : Candidate) (x : code.Candidate) → Shows s x → (row : Row) (f : Fragment)
@@ -82,17 +81,17 @@ module _ {m : List ℕ} (holds : Holds m) (pol : List ℕ) (e : ℕ) (l : e < no
 
 -- ---- a cast may be offered
 
-cast-kind : (kind : ℕ) (children : Children) (r : TypeResult) (d : ExtData) (c : Cost) {y : code.Candidate}
-    → cast_as kind children r d c ≡ Cast y → kind ≡ y.kind
-cast-kind kind children (TypeResult.Ok t) d c h = cc
-cast-kind kind children TypeResult.IllTyped d c h = cc
+cast-kind : (kind : ℕ) (children : Children) (r : Result «Type» TypeError) (d : ExtData) (c : Cost) {y : code.Candidate}
+    → cast_as kind children r d c ≡ Ok y → kind ≡ y.kind
+cast-kind kind children (Ok t) d c h = cc
+cast-kind kind children (Err TypeError.IllTyped) d c h = cc
 
 all_plain : List Row → Bool
 all_plain [] = true
 all_plain (r ∷ rows) = plain_kind r.kind && all_plain rows
 
 plain-from : (rows : List Row) → all_plain rows ≡ true → (n : ℕ) (x : code.Candidate) (e : ℕ) {y : code.Candidate}
-    → cast_from rows n x e ≡ Cast y → plain_kind y.kind ≡ true
+    → cast_from rows n x e ≡ Ok y → plain_kind y.kind ≡ true
 unfolding cast_from all_plain
 plain-from [] p n x e m = cc
 plain-from (r ∷ rows) p zero x e m =
@@ -101,7 +100,7 @@ plain-from (r ∷ rows) p zero x e m =
 plain-from (r ∷ rows) p (suc n) x e m = plain-from rows (both_true (plain_kind r.kind) (all_plain rows) p).1 n x e m
 
 pub cast-fresh : {m : List ℕ} → Holds m → {e : ℕ} → e < node_count m → (c : Context) (n : ℕ) {y : code.Candidate}
-    → cast_of c n (node_at m e) e ≡ Cast y → Offerable m y
+    → cast_of c n (node_at m e) e ≡ Ok y → Offerable m y
 unfolding all_plain
 cast-fresh {m} holds {e} l c n is =
     plain-offers (cast-kept (node_at m e) (holds.nodes e l).entered e c n is) (plain-from (casts.all_casts c) refl n (node_at m e) e is)

@@ -4,14 +4,13 @@ use mathlib.Core.Path.{◌≡◌, refl, sym, ap, ◌∙◌}
 use mathlib.Core.Bool.{Bool, true, false, cond}
 use mathlib.Core.List.{List, [], ◌∷◌, ◌++◌, map}
 use mathlib.Core.Logic.{◌⊎◌, inl, inr}
-use mathlib.Core.Option.{some}
+use Rattle.std.specs.Prelude.{Some, None}
 use Prim.Native.Nat.{ℕ, zero, suc, ◌+◌, ◌*◌, ◌/◌, ◌%◌, ◌<◌, ◌≤◌}
 use native.Mathlib.Omega.{arith}
 use borrow.Author.Tests.{ltb-true, ltb-false, eqb-true}
 use lib.Dec.{eqb, ltb}
 use lib.ListN.{length, drop}
 use Rattle.figures.specs.declared.SatData.{SatData}
-use Rattle.figures.specs.declared.Sat.{Sat}
 use Rattle.figures.specs.Bounds.{SmallData, SmallSat, Small}
 use Rattle.policies.specs.Forms.{children_of}
 use Rattle.policies.specs.Array.{policy_at}
@@ -74,7 +73,7 @@ alike-made kind p p' [] a = refl
 alike-made kind p p' (l ∷ lines) a = by-test (eqb kind l.kind) refl (alike-made kind p p' lines a.1)
   where
     by-test : (b : Bool) → eqb kind l.kind ≡ b → make_by (find kind lines) p ≡ make_by (find kind lines) p'
-        → make_by (cond b (some l.this) (find kind lines)) p ≡ make_by (cond b (some l.this) (find kind lines)) p'
+        → make_by (cond b (Some l.this) (find kind lines)) p ≡ make_by (cond b (Some l.this) (find kind lines)) p'
     by-test true e r = a.0 (eqb-true kind l.kind e)
     by-test false e r = r
 
@@ -326,7 +325,7 @@ module _ {m₀ m : List ℕ} (holds : Holds m₀) (grows : Grows m₀ m) (pol : 
 
 -- ---- the figures of every node are small
 
-small-if : (b : Bool) (d : SatData) → SmallData d → SmallSat (cond b (Sat.Some d) Sat.None)
+small-if : (b : Bool) (d : SatData) → SmallData d → SmallSat (cond b (Some d) None)
 small-if true d s = s
 small-if false d s = tt
 

@@ -2,7 +2,7 @@
 -- offered to a table. Assumes nothing.
 use mathlib.Core.Path.{◌≡◌, refl, sym, ◌∙◌, ap}
 use mathlib.Core.List.{List, ◌∷◌, map}
-use mathlib.Core.Option.{Option, none, some}
+use Rattle.std.specs.Prelude.{Option, None, Some}
 use Prim.Native.Nat.{ℕ, ◌≤◌}
 use lib.ListN.{length}
 use Rattle.contexts.specs.declared.Context.{Context}
@@ -103,11 +103,11 @@ searched c (And l r) = refl
 searched c (Or l r lw rw) = refl
 searched c (Thresh k xs) = refl
 
-key-first : (x : Policy) (rest : Option (List ℕ)) (ns keys : List ℕ) → ((ks : List ℕ) → rest ≡ some ks → ns ≡ ks) → key_or x rest ≡ some keys
+key-first : (x : Policy) (rest : Option (List ℕ)) (ns keys : List ℕ) → ((ks : List ℕ) → rest ≡ Some ks → ns ≡ ks) → key_or x rest ≡ Some keys
     → number_of x ∷ ns ≡ keys
 unfolding number_of
-key-first (Key n) none ns keys others is = cc
-key-first (Key n) (some ks) ns keys others is = ap (λ (l : List ℕ). n ∷ l) (others ks refl) ∙ cc
+key-first (Key n) None ns keys others is = cc
+key-first (Key n) (Some ks) ns keys others is = ap (λ (l : List ℕ). n ∷ l) (others ks refl) ∙ cc
 key-first Unsatisfiable rest ns keys others is = cc
 key-first Trivial rest ns keys others is = cc
 key-first (Lock kind n) rest ns keys others is = cc
@@ -116,7 +116,7 @@ key-first (And l r) rest ns keys others is = cc
 key-first (Or l r lw rw) rest ns keys others is = cc
 key-first (Thresh k xs) rest ns keys others is = cc
 
-pub keys-are : (c : Context) (xs : Policies) (keys : List ℕ) → definition-search.keys_of (searchers c xs) ≡ some keys → map number_of (to_list xs) ≡ keys
+pub keys-are : (c : Context) (xs : Policies) (keys : List ℕ) → definition-search.keys_of (searchers c xs) ≡ Some keys → map number_of (to_list xs) ≡ keys
 unfolding definition-search.keys_of searchers to_list
 keys-are c end keys is = cc
 keys-are c (x ▹ xs) keys is =

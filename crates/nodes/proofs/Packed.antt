@@ -1,4 +1,6 @@
 -- A node's eight words hold its candidate: each digit comes back, if it is below its width. Assumes nothing.
+use Rattle.figures.specs.declared.SatData.{SatData}
+use Rattle.std.specs.Prelude.{Option, None, Some}
 use mathlib.Core.Path.{◌≡◌, refl, ap, ◌∙◌}
 use mathlib.Core.Bool.{Bool, true, false}
 use Prim.Native.Nat.{ℕ, ◌+◌, ◌*◌, ◌/◌, ◌%◌, ◌<◌, ◌≤◌}
@@ -12,10 +14,8 @@ use Rattle.types.specs.TypeOrder.{pack, unpack}
 use Rattle.contexts.specs.Bools.{bool_rank}
 use Rattle.types.proofs.PackLaws.{pack-lt, unpack-pack}
 use Rattle.contexts.proofs.Bools.{bool-of}
-use Rattle.figures.specs.declared.Sat.{Sat}
 use Rattle.figures.specs.declared.ExtData.{ExtData}
 use Rattle.figures.specs.Bounds.{WithinSat, Entered}
-use Rattle.costs.specs.declared.DissatCost.{DissatCost}
 use Rattle.costs.specs.declared.Cost.{Cost}
 use Rattle.candidates.specs.declared.Candidate.{Candidate}
 use Rattle.nodes.specs.Words.{shape_word, script_word, witness_word, stack_word, dissat_word, has_sat, has_dissat_cost}
@@ -92,13 +92,13 @@ bit-lt : (b : Bool) → bool_rank b < 2
 bit-lt true = omega arith
 bit-lt false = omega arith
 
-sat-lt : (s : Sat) → has_sat s < 2
-sat-lt (Sat.Some d) = omega arith
-sat-lt Sat.None = omega arith
+sat-lt : (s : Option SatData) → has_sat s < 2
+sat-lt (Some d) = omega arith
+sat-lt None = omega arith
 
-dissat-lt : (d : DissatCost) → has_dissat_cost d < 2
-dissat-lt (DissatCost.Some x) = omega arith
-dissat-lt DissatCost.None = omega arith
+dissat-lt : (d : Option Float) → has_dissat_cost d < 2
+dissat-lt (Some x) = omega arith
+dissat-lt None = omega arith
 
 -- ---- worst cases and costs
 
@@ -119,8 +119,8 @@ two-halves : (o low high : ℕ) → low ≡ o % 0x800 → high ≡ o / 0x800 →
 two-halves o low high p q = omega arith
 
 sat-data : (a b c d e a' b' c' d' e' : ℕ) → a ≡ a' → b ≡ b' → c ≡ c' → d ≡ d' → e ≡ e'
-    → ◌≡◌ {A = Sat}
-    (Sat.Some
+    → ◌≡◌ {A = Option SatData}
+    (Some
     (record {
       max_witness_stack_size = a;
       max_witness_stack_count = b;
@@ -128,7 +128,7 @@ sat-data : (a b c d e a' b' c' d' e' : ℕ) → a ≡ a' → b ≡ b' → c ≡ 
       max_exec_stack_count = d;
       max_exec_op_count = e;
     }))
-    (Sat.Some
+    (Some
     (record {
       max_witness_stack_size = a';
       max_witness_stack_count = b';
@@ -138,40 +138,40 @@ sat-data : (a b c d e a' b' c' d' e' : ℕ) → a ≡ a' → b ≡ b' → c ≡ 
     }))
 sat-data a b c d e a' b' c' d' e' p q r s t = rw (p, q, r, s, t)
 
-sat-again : (s : Sat) → FitSat s → sat_in (has_sat s) (witness_word s) (stack_word s) ≡ s
-sat-again Sat.None f = refl
-sat-again (Sat.Some d) f =
+sat-again : (s : Option SatData) → FitSat s → sat_in (has_sat s) (witness_word s) (stack_word s) ≡ s
+sat-again None f = refl
+sat-again (Some d) f =
     let o = d.max_exec_op_count in
     let w =
-    half (witness_word (Sat.Some d)) d.max_witness_stack_size d.max_witness_stack_count (o % 0x800) refl f.size f.count
+    half (witness_word (Some d)) d.max_witness_stack_size d.max_witness_stack_count (o % 0x800) refl f.size f.count
     (omega arith) in
     let s =
-    half (stack_word (Sat.Some d)) d.max_script_sig_size d.max_exec_stack_count (o / 0x800) refl f.sig f.stack
+    half (stack_word (Some d)) d.max_script_sig_size d.max_exec_stack_count (o / 0x800) refl f.sig f.stack
     (omega (arith, f.ops)) in
     sat-data _ _ _ _ _ _ _ _ _ _ w.size w.count s.size s.count (two-halves o _ _ w.ops s.ops)
 
-dissat-again : (d : DissatCost) → FitDissat d → dissat_in (has_dissat_cost d) (dissat_word d) ≡ d
-dissat-again DissatCost.None f = refl
-dissat-again (DissatCost.Some x) f = ap DissatCost.Some (float-again x f)
+dissat-again : (d : Option Float) → FitDissat d → dissat_in (has_dissat_cost d) (dissat_word d) ≡ d
+dissat-again None f = refl
+dissat-again (Some x) f = ap Some (float-again x f)
 
 -- ---- the whole
 
 free-again : (n : ℕ) (b : Bool) → n ≡ bool_rank b → eqb n 1 ≡ b
 free-again n b e = ap (λ (v : ℕ). eqb v 1) e ∙ bool-of b
 
-has-sat : (n : ℕ) (s : Sat) → n ≡ has_sat s → FitSat s → sat_in n (witness_word s) (stack_word s) ≡ s
+has-sat : (n : ℕ) (s : Option SatData) → n ≡ has_sat s → FitSat s → sat_in n (witness_word s) (stack_word s) ≡ s
 has-sat n s e f = ap (λ (v : ℕ). sat_in v (witness_word s) (stack_word s)) e ∙ sat-again s f
 
-has-dissat : (n : ℕ) (d : DissatCost) → n ≡ has_dissat_cost d → FitDissat d → dissat_in n (dissat_word d) ≡ d
+has-dissat : (n : ℕ) (d : Option Float) → n ≡ has_dissat_cost d → FitDissat d → dissat_in n (dissat_word d) ≡ d
 has-dissat n d e f = ap (λ (v : ℕ). dissat_in v (dissat_word d)) e ∙ dissat-again d f
 
-ext-data : {p q h p' q' h' : ℕ} {f f' : Bool} {s d s' d' : Sat} → p ≡ p' → f ≡ f' → q ≡ q' → s ≡ s' → d ≡ d' → h ≡ h'
+ext-data : {p q h p' q' h' : ℕ} {f f' : Bool} {s d s' d' : Option SatData} → p ≡ p' → f ≡ f' → q ≡ q' → s ≡ s' → d ≡ d' → h ≡ h'
     → ◌≡◌ {A = ExtData}
     (record { pk_cost = p; has_free_verify = f; static_ops = q; sat_data = s; dissat_data = d; tree_height = h })
     (record { pk_cost = p'; has_free_verify = f'; static_ops = q'; sat_data = s'; dissat_data = d'; tree_height = h' })
 ext-data a b c d e f = rw (a, b, c, d, e, f)
 
-cost-data : {a a' : Float} {d d' : DissatCost} → a ≡ a' → d ≡ d'
+cost-data : {a a' : Float} {d d' : Option Float} → a ≡ a' → d ≡ d'
     → ◌≡◌ {A = Cost} (record { sat_cost = a; dissat_cost = d }) (record { sat_cost = a'; dissat_cost = d' })
 cost-data p q = rw (p, q)
 
@@ -205,9 +205,9 @@ words-again x f =
 
 -- ---- what has entered a table is below its width
 
-within-fits : (bytes : ℕ) (s : Sat) → bytes ≤ 4000000 → WithinSat bytes s → FitSat s
-within-fits bytes Sat.None h w = tt
-within-fits bytes (Sat.Some d) h w =
+within-fits : (bytes : ℕ) (s : Option SatData) → bytes ≤ 4000000 → WithinSat bytes s → FitSat s
+within-fits bytes None h w = tt
+within-fits bytes (Some d) h w =
     record {
       size = omega (arith, w.size);
       count = omega (arith, w.count);

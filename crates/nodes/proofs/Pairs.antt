@@ -1,23 +1,25 @@
 -- A pair or a triple of nodes, as the code makes it, stands for the definition's of what the nodes stand for, and it may be offered to a
 -- table. Assumes nothing.
+use Rattle.candidates.specs.declared.NotMade.{NotMade}
+use Rattle.types.specs.declared.«Type».{«Type»}
+use Rattle.correctness.specs.declared.TypeError.{TypeError}
+use Rattle.costs.specs.declared.Cost.{Cost}
+use Rattle.std.specs.Prelude.{Option, Result, None, Some, Ok, Err}
 use mathlib.Core.Path.{◌≡◌, refl, sym, ◌∙◌, ap}
 use mathlib.Core.Bool.{Bool, true, false, cond, ◌&&◌}
 use mathlib.Core.List.{List, [], ◌∷◌}
 use Prim.Native.Nat.{ℕ, ◌<◌}
 use lib.Dec.{eqb}
 use lib.Ieee.{Float}
-use Rattle.types.specs.declared.TypeResult.{TypeResult}
 use Rattle.types.specs.TypeRules as type
 use Rattle.figures.specs.declared.ExtData.{ExtData}
 use Rattle.figures.specs.Rules as ext
-use Rattle.costs.specs.declared.Costed.{Costed}
 use Rattle.costs.specs.Rules as cost
 use Rattle.trees.specs.Fragment.{Fragment, AndB, AndV, OrB, OrD, OrC, OrI, AndOr}
 use Rattle.trees.specs.Tree.{find}
 use Rattle.definition.specs.Candidates as definition
 use Rattle.definition.specs.Candidates.{Candidate, Pair, pair_no}
 use Rattle.candidates.specs.declared.Candidate as code
-use Rattle.candidates.specs.declared.Made.{Made}
 use Rattle.candidates.specs.Pairs as pairs
 use Rattle.candidates.specs.Pairs.{Row, made_as, pair_by, pair_from, pair_of, and_or}
 use Rattle.candidates.proofs.Kept.{pair-kept, and-or-kept}
@@ -32,13 +34,13 @@ use Rattle.nodes.proofs.Offers.{both_true, plain_kind, plain-offers, node-entere
 -- ---- what a pair stands for
 
 module _ (pol m : List ℕ) where
-  as-made : (kind first second third : ℕ) (f : Fragment) → TreeIs pol m kind first second third f → (r : TypeResult) (d : ExtData) (c : Costed)
+  as-made : (kind first second third : ℕ) (f : Fragment) → TreeIs pol m kind first second third f → (r : Result «Type» TypeError) (d : ExtData) (c : Option Cost)
       → made_seen pol m (made_as kind first second third r d c) ≡ definition.made_as r f d c
   unfolding seen_as
-  as-made kind first second third f is (TypeResult.Ok t) d (Costed.Cost c) =
+  as-made kind first second third f is (Ok t) d (Some c) =
       ap (λ (g : Fragment). definition.made (definition.candidate g t d c)) (is t d c)
-  as-made kind first second third f is (TypeResult.Ok t) d Costed.Missing = refl
-  as-made kind first second third f is TypeResult.IllTyped d c = refl
+  as-made kind first second third f is (Ok t) d None = refl
+  as-made kind first second third f is (Err TypeError.IllTyped) d c = refl
 
   module _ (l r : ℕ) (s t : Candidate) (x y : code.Candidate) (same : Shows s x) (same' : Shows t y) (lprob rprob : Float) where
     -- any pair, by its rules and its tree
@@ -89,10 +91,10 @@ module _ (pol m : List ℕ) (l r : ℕ) (hl : l < node_count m) (hr : r < node_c
   or-i-seen = of_row pairs.or_i (OrI left right) (λ t d c. refl)
 
   -- what is made stands for a pair of the definition
-  abbrev Sees : Made → Pair → Type 0
+  abbrev Sees : Result code.Candidate NotMade → Pair → Type 0
   Sees x f = made_seen pol m x ≡ f lprob rprob (seen pol m l) (seen pol m r)
 
-  next-seen : (b : Bool) (x y : Made) (f g : Pair) → Sees x f → Sees y g → Sees (cond b x y) (cond b f g)
+  next-seen : (b : Bool) (x y : Result code.Candidate NotMade) (f g : Pair) → Sees x f → Sees y g → Sees (cond b x y) (cond b f g)
   next-seen true x y f g p q = p
   next-seen false x y f g p q = q
 
@@ -140,26 +142,26 @@ and-or-seen pol m a b c ha hb hc lprob rprob =
 
 -- ---- a pair or a triple may be offered
 
-made-kind : (kind first second third : ℕ) (r : TypeResult) (d : ExtData) (c : Costed) {y : code.Candidate}
-    → made_as kind first second third r d c ≡ Made.Candidate y → kind ≡ y.kind
-made-kind kind first second third (TypeResult.Ok t) d (Costed.Cost c) h = cc
-made-kind kind first second third (TypeResult.Ok t) d Costed.Missing h = cc
-made-kind kind first second third TypeResult.IllTyped d c h = cc
+made-kind : (kind first second third : ℕ) (r : Result «Type» TypeError) (d : ExtData) (c : Option Cost) {y : code.Candidate}
+    → made_as kind first second third r d c ≡ Ok y → kind ≡ y.kind
+made-kind kind first second third (Ok t) d (Some c) h = cc
+made-kind kind first second third (Ok t) d None h = cc
+made-kind kind first second third (Err TypeError.IllTyped) d c h = cc
 
 all_plain : List Row → Bool
 all_plain [] = true
 all_plain (p ∷ rows) = plain_kind p.kind && all_plain rows
 
 module _ (x : code.Candidate) (l : ℕ) (y : code.Candidate) (r : ℕ) (lprob rprob : Float) {z : code.Candidate} where
-  plain-next : (b : Bool) (row : Row) (rest : Made) → plain_kind row.kind ≡ true → (rest ≡ Made.Candidate z → plain_kind z.kind ≡ true)
-      → cond b (pair_by row x l y r lprob rprob) rest ≡ Made.Candidate z → plain_kind z.kind ≡ true
+  plain-next : (b : Bool) (row : Row) (rest : Result code.Candidate NotMade) → plain_kind row.kind ≡ true → (rest ≡ Ok z → plain_kind z.kind ≡ true)
+      → cond b (pair_by row x l y r lprob rprob) rest ≡ Ok z → plain_kind z.kind ≡ true
   plain-next true row rest p next m =
       let k = made-kind row.kind l r 0 (row.type_rule x.ty y.ty) (row.ext_rule x.ext y.ext)
       (row.cost_rule x.cost y.cost lprob rprob) m in
       ap plain_kind (sym k) ∙ p
   plain-next false row rest p next m = next m
 
-  plain-from : (rows : List Row) → all_plain rows ≡ true → (kind : ℕ) → pair_from rows kind x l y r lprob rprob ≡ Made.Candidate z
+  plain-from : (rows : List Row) → all_plain rows ≡ true → (kind : ℕ) → pair_from rows kind x l y r lprob rprob ≡ Ok z
       → plain_kind z.kind ≡ true
   unfolding pair_from all_plain
   plain-from [] p kind m = cc
@@ -169,14 +171,14 @@ module _ (x : code.Candidate) (l : ℕ) (y : code.Candidate) (r : ℕ) (lprob rp
 
 module _ {m : List ℕ} (holds : Holds m) where
   pub pair-fresh : {l r : ℕ} → l < node_count m → r < node_count m → (lprob rprob : Float) (kind : ℕ) {y : code.Candidate}
-      → pair_of kind (node_at m l) l (node_at m r) r lprob rprob ≡ Made.Candidate y → Offerable m y
+      → pair_of kind (node_at m l) l (node_at m r) r lprob rprob ≡ Ok y → Offerable m y
   unfolding all_plain
   pair-fresh {l} {r} hl hr lprob rprob kind is =
       plain-offers (pair-kept (node_at m l) (node_at m r) (node-entered holds hl) (node-entered holds hr) l r lprob rprob kind is)
       (plain-from (node_at m l) l (node_at m r) r lprob rprob pairs.all_pairs refl kind is)
 
   pub and-or-fresh : {a b c : ℕ} → a < node_count m → b < node_count m → c < node_count m → (lprob rprob : Float) {y : code.Candidate}
-      → and_or (node_at m a) a (node_at m b) b (node_at m c) c lprob rprob ≡ Made.Candidate y → Offerable m y
+      → and_or (node_at m a) a (node_at m b) b (node_at m c) c lprob rprob ≡ Ok y → Offerable m y
   and-or-fresh {a} {b} {c} ha hb hc lprob rprob is =
       plain-offers
       (and-or-kept (node_at m a) (node_at m b) (node_at m c) (node-entered holds ha) (node-entered holds hb) (node-entered holds hc)

@@ -1,24 +1,23 @@
 -- What the stores of this crate leave: the parts of a word, the words of a node and of a row, and the memory around them. Assumes nothing.
+use Rattle.std.specs.Prelude.{Option, None, Some}
 use mathlib.Core.Path.{◌≡◌, refl, sym, ap, ◌∙◌, subst}
 use mathlib.Core.Bool.{Bool, true, false, cond}
-use mathlib.Core.List.{List, [], ◌∷◌}
+use mathlib.Core.List.{List, [], ◌∷◌, ◌++◌, append_assoc}
 use Prim.Native.Nat.{ℕ, zero, suc, ◌+◌, ◌*◌, ◌/◌, ◌%◌, ◌^◌, ◌<◌, ◌≤◌}
 use native.Mathlib.Omega.{arith}
 use native.Mathlib.Nat.{div-one, div-add-mod}
 use borrow.Author.Tests.{lt-ltb, le-ltb, ltb-true, ltb-false}
 use lib.Dec.{ltb}
 use lib.Ieee.{Float}
-use lib.ListN.{length, get_or, set, take, length-set}
-use lib.Seq.{sets, take_all, length-sets, get_or-set_same, get_or-set_other}
+use lib.ListN.{length, get_or, set, take, drop, length-set}
+use lib.Seq.{sets, sets-eq, drop-drop, length-sets, get_or-set_same, get_or-set_other}
 use Rattle.words.proofs.Stores.{sets_below, sets-above, sets-in}
 use Rattle.types.specs.declared.«Type».{«Type»}
 use Rattle.types.specs.TypeOrder.{pack}
 use Rattle.types.proofs.PackLaws.{pack-lt}
 use Rattle.figures.specs.declared.SatData.{SatData}
-use Rattle.figures.specs.declared.Sat.{Sat}
-use Rattle.costs.specs.declared.DissatCost.{DissatCost}
 use Rattle.candidates.specs.declared.Candidate.{Candidate}
-use Rattle.memory.specs.Layout.{max_nodes, rows_from, word_at}
+use Rattle.memory.specs.Layout.{rows_from, word_at}
 use Rattle.nodes.specs.Words.{script_word, witness_word, stack_word, candidate_in, node_words, node_at, row_child}
 use Rattle.nodes.specs.Stored.{FitData, FitSat, FitExt, Fit, ShapeIs, FloatIs, DissatIs, WordsAre}
 use Rattle.nodes.specs.Stored.{four_word, FourFit, row_word, RowFit, RowWordIs, RowWordsAre}
@@ -26,16 +25,16 @@ use Rattle.nodes.proofs.Packed.{middle, words-again}
 
 -- ---- parts
 
-pub some_fits : {s : Sat} {d : SatData} → s ≡ Sat.Some d → FitSat s → FitData d
-some_fits e f = subst (λ (s : Sat). FitSat s) e f
+pub some_fits : {s : Option SatData} {d : SatData} → s ≡ Some d → FitSat s → FitData d
+some_fits e f = subst (λ (s : Option SatData). FitSat s) e f
 
 pub packed_lt : (n : ℕ) (t : «Type») → n ≡ pack t → n < 960
 packed_lt n t e = omega (arith, pack-lt t)
 
-pub dissat-some : {x : DissatCost} {d : Float} {w : ℕ} → x ≡ DissatCost.Some d → FloatIs d w → DissatIs x w
+pub dissat-some : {x : Option Float} {d : Float} {w : ℕ} → x ≡ Some d → FloatIs d w → DissatIs x w
 dissat-some e f = rw e (record { is = f.is; fit = f.fit })
 
-pub dissat-none : {x : DissatCost} → x ≡ DissatCost.None → DissatIs x 0
+pub dissat-none : {x : Option Float} → x ≡ None → DissatIs x 0
 dissat-none e = rw e (record { is = refl; fit = tt })
 
 pub words_are : (x : Candidate) {a b c d e f g h : ℕ} → x.kind < 0x40 → FitExt x.ext → ShapeIs x a → b ≡ script_word x
@@ -136,8 +135,11 @@ row-again row ws p j l =
 
 -- ---- memory
 
-pub stored-all : (m₀ m vs : List ℕ) (at j : ℕ) → m ≡ sets m₀ at (take j vs) → length vs ≤ j → m ≡ sets m₀ at vs
-stored-all m₀ m vs at j e h = e ∙ rw (take_all j vs h)
+-- words copied over a part of it
+pub copied-over : (m vs part : List ℕ) (at k : ℕ) → part ≡ vs → k ≡ length vs → at + length vs ≤ length m
+    → take at m ++ (part ++ drop k (drop at m)) ≡ sets m at vs
+copied-over m vs part at k is n h =
+    rw (is, n, drop-drop (length vs) at m) (sym (append_assoc (take at m) vs (drop (at + length vs) m)) ∙ sym (sets-eq vs m at h))
 
 same-words : {a b c d e f g h a' b' c' d' e' f' g' h' : ℕ} → a ≡ a' → b ≡ b' → c ≡ c' → d ≡ d' → e ≡ e' → f ≡ f' → g ≡ g' → h ≡ h'
     → candidate_in a b c d e f g h ≡ candidate_in a' b' c' d' e' f' g' h'
@@ -205,10 +207,6 @@ module _ (m : List ℕ) (i : ℕ) (x : Candidate) where
       by-test false e =
           let l : i < j = omega (arith, ltb-false j i e, ne) in
           node-same (sets m (8 * i + 8) (node_words x)) m j (λ at a b. sets-above (node_words x) m (8 * i + 8) at 0 (omega arith))
-
-  -- and so is every word beyond the nodes
-  pub put-beyond : i < max_nodes → (at : ℕ) → rows_from ≤ at → word_at (sets m (8 * i + 8) (node_words x)) at ≡ word_at m at
-  put-beyond l at h = sets-above (node_words x) m (8 * i + 8) at 0 (omega arith)
 
 -- ---- words put, and one that counts them
 

@@ -2,7 +2,7 @@
 use mathlib.Core.Path.{◌≡◌, refl, sym, ◌∙◌, ap}
 use mathlib.Core.Bool.{Bool, true, false, cond, ◌&&◌}
 use mathlib.Core.List.{List, [], ◌∷◌}
-use mathlib.Core.Option.{some}
+use Rattle.std.specs.Prelude.{Some}
 use Prim.Native.Nat.{ℕ, suc, ◌<◌}
 use native.Mathlib.Omega.{arith}
 use borrow.Author.Tests.{eqb-true}
@@ -39,7 +39,7 @@ all_right p (line ∷ lines) = eqb (kind_of (line.this p)) (refusable line.kind)
 module _ (p : Parts) (kind : ℕ) where
   by-line : (b : Bool) (line : Line (Parts → Fragment)) (lines : List (Line (Parts → Fragment))) → eqb kind line.kind ≡ b
       → kind_of (line.this p) ≡ refusable line.kind → kind_of (make_by (find kind lines) p) ≡ refusable kind
-      → kind_of (make_by (cond b (some line.this) (find kind lines)) p) ≡ refusable kind
+      → kind_of (make_by (cond b (Some line.this) (find kind lines)) p) ≡ refusable kind
   by-line true line lines t is others = is ∙ ap refusable (sym (eqb-true kind line.kind t))
   by-line false line lines t is others = others
 

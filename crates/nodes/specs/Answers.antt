@@ -1,10 +1,8 @@
 -- What holds of the nodes in work memory, how they grow, and what adding one leaves. Assumes nothing.
-use Rattle.std.specs.Prelude.{List, ◌≡◌, ℕ, suc, ◌<◌, ◌≤◌, length, get_or}
+use Rattle.std.specs.Prelude.{List, ◌≡◌, ℕ, suc, ◌<◌, ◌≤◌, length, get_or, Option, None, Some}
 use Rattle.figures.specs.Bounds.{Entered}
 use Rattle.candidates.specs.declared.Candidate.{Candidate}
 use Rattle.candidates.specs.Leaves.{false_candidate, true_candidate}
-use Rattle.nodes.specs.declared.Added.{Added}
-use Rattle.nodes.specs.declared.Added.TheVariants.{At, Full}
 use Rattle.memory.specs.Layout.{work_words, max_nodes, max_rows, keys_from, node_count, table_count, row_count, SameWords}
 use Rattle.nodes.specs.Words.{node_at, row_child}
 use Rattle.nodes.specs.Views.{seen, offered}
@@ -60,9 +58,9 @@ pub record OneMore (m₀ m : List ℕ) (x : Candidate) : Type 0 where
   pub sees : (pol : List ℕ) → seen pol m (node_count m₀) ≡ offered pol m₀ x
 
 -- what adding a candidate leaves
-pub data Adds (m₀ m : List ℕ) (x : Candidate) : Added → Type 0 where
-  full : node_count m₀ ≡ max_nodes → m ≡ m₀ → Adds m₀ m x Full
-  at : {e : ℕ} → e ≡ node_count m₀ → node_count m₀ < max_nodes → OneMore m₀ m x → Adds m₀ m x (At e)
+pub data Adds (m₀ m : List ℕ) (x : Candidate) : Option ℕ → Type 0 where
+  full : node_count m₀ ≡ max_nodes → m ≡ m₀ → Adds m₀ m x None
+  at : {e : ℕ} → e ≡ node_count m₀ → node_count m₀ < max_nodes → OneMore m₀ m x → Adds m₀ m x (Some e)
 
 -- one row more, whose number is r
 pub record OneRow (m₀ m : List ℕ) (row : List ℕ) (r : ℕ) : Type 0 where

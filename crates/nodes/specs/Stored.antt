@@ -1,13 +1,11 @@
 -- What storing a node or a row asks, and what its parts answer: that each figure is below its width, and that a float is one of 64 bits.
 -- Assumes nothing: these are definitions.
-use Rattle.std.specs.Prelude.{List, [], ◌∷◌, ◌≡◌, ℕ, ◌+◌, ◌*◌, ◌<◌, T, Float, get_or}
+use Rattle.std.specs.Prelude.{List, [], ◌∷◌, ◌≡◌, ℕ, ◌+◌, ◌*◌, ◌<◌, T, Float, get_or, Option, None, Some}
 use Rattle.std.specs.Float.{binary64}
 use Rattle.std.specs.Float.Ieee.{fits}
 use Rattle.words.specs.Floats.{word_of_float}
 use Rattle.figures.specs.declared.SatData.{SatData}
-use Rattle.figures.specs.declared.Sat.{Sat}
 use Rattle.figures.specs.declared.ExtData.{ExtData}
-use Rattle.costs.specs.declared.DissatCost.{DissatCost}
 use Rattle.candidates.specs.declared.Candidate.{Candidate}
 use Rattle.nodes.specs.Words.{shape_word, dissat_word, node_words}
 
@@ -20,9 +18,9 @@ pub record FitData (d : SatData) : Type 0 where
   pub stack : d.max_exec_stack_count < 0x40_0000
   pub ops : d.max_exec_op_count < 0x40_0000
 
-abbrev pub FitSat : Sat → Type 0
-FitSat (Sat.Some d) = FitData d
-FitSat Sat.None = Unit
+abbrev pub FitSat : Option SatData → Type 0
+FitSat (Some d) = FitData d
+FitSat None = Unit
 
 pub record FitExt (e : ExtData) : Type 0 where
   pub cost : e.pk_cost < 0x40_0000
@@ -34,9 +32,9 @@ pub record FitExt (e : ExtData) : Type 0 where
 abbrev pub FitFloat : Float → Type 0
 FitFloat x = T (fits binary64 x)
 
-abbrev pub FitDissat : DissatCost → Type 0
-FitDissat (DissatCost.Some x) = FitFloat x
-FitDissat DissatCost.None = Unit
+abbrev pub FitDissat : Option Float → Type 0
+FitDissat (Some x) = FitFloat x
+FitDissat None = Unit
 
 pub record Fit (x : Candidate) : Type 0 where
   pub kind : x.kind < 0x40
@@ -59,7 +57,7 @@ pub record FloatIs (x : Float) (w : ℕ) : Type 0 where
   pub is : w ≡ word_of_float x
   pub fit : FitFloat x
 
-pub record DissatIs (x : DissatCost) (w : ℕ) : Type 0 where
+pub record DissatIs (x : Option Float) (w : ℕ) : Type 0 where
   pub is : w ≡ dissat_word x
   pub fit : FitDissat x
 

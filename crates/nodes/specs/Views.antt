@@ -1,6 +1,6 @@
 -- What the nodes in work memory stand for: candidates that carry their trees, as the definition of compile has them. A leaf holds the number of
 -- a record of the policy, and so do Thresh, Multi and MultiA; the children of a Thresh are its row. Assumes nothing.
-use Rattle.std.specs.Prelude.{List, [], ◌∷◌, ◌++◌, map, ℕ, zero, suc, length, get_or}
+use Rattle.std.specs.Prelude.{List, [], ◌∷◌, ◌++◌, map, ℕ, zero, suc, length, get_or, Option, None, Some}
 use Rattle.contexts.specs.Leaves.{After, Older, Sha256, Hash256, Ripemd160, Hash160}
 use Rattle.policies.specs.Policy.{Policy}
 use Rattle.policies.specs.Forms.{number_of, k_of, children_of}
@@ -8,7 +8,6 @@ use Rattle.policies.specs.Array.{policy_at}
 use Rattle.trees.specs.Fragment.{Fragment, False, True, PkK, PkH, Lock, Hash, Alt, Swap, Check, DupIf, Verify, NonZero, ZeroNotEqual}
 use Rattle.trees.specs.Fragment.{AndB, AndV, OrB, OrD, OrC, OrI, AndOr, Thresh, Multi, MultiA}
 use Rattle.trees.specs.Tree.{Line, ◌is◌, find}
-use Rattle.std.proofs.Math.Option.{Option, none, some}
 use Rattle.definition.specs.Candidates.{Candidate, candidate, false', fragments}
 use Rattle.definition.specs.Tables.{Table}
 use Rattle.candidates.specs.declared.Candidate as code
@@ -69,8 +68,8 @@ makers =
     ∷ []
 
 abbrev pub make_by : Option (Parts → Fragment) → Parts → Fragment
-make_by (some maker) p = maker p
-make_by none p = False
+make_by (Some maker) p = maker p
+make_by None p = False
 
 -- of a candidate in memory m, over candidates that are there, for the policy in the array pol
 abbrev pub parts_of : (pol m : List ℕ) → Table → code.Candidate → Parts

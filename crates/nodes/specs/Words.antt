@@ -1,18 +1,15 @@
 -- The eight words of a node, and the candidate that they hold. Figures that have entered a table are within 4,000,000 bytes of script (figures,
 -- specs/Bounds.antt), so 22 bits hold those that count bytes of the script or elements, and 25 bits the sizes of witnesses. Assumes nothing.
-use Rattle.std.specs.Prelude.{cond, List, [], ◌∷◌, ℕ, ◌+◌, ◌*◌, ◌/◌, ◌%◌, ◌^◌, eqb, ltb}
+use Rattle.figures.specs.declared.SatData.{SatData}
+use Rattle.std.specs.Prelude.{cond, List, [], ◌∷◌, ℕ, ◌+◌, ◌*◌, ◌/◌, ◌%◌, ◌^◌, eqb, ltb, Float, Option, None, Some}
 use Rattle.words.specs.Floats.{word_of_float, float_of_word}
 use Rattle.types.specs.declared.«Type».{«Type»}
 use Rattle.types.specs.TypeOrder.{pack}
 use Rattle.contexts.specs.Bools.{bool_rank}
-use Rattle.figures.specs.declared.Sat.{Sat}
 use Rattle.figures.specs.declared.ExtData.{ExtData}
-use Rattle.costs.specs.declared.DissatCost.{DissatCost}
 use Rattle.costs.specs.declared.Cost.{Cost}
 use Rattle.candidates.specs.declared.Candidate.{Candidate}
 use Rattle.memory.specs.Layout.{rows_from, word_at}
-use Rattle.types.specs.declared.Unpacked.{Unpacked}
-use Rattle.types.specs.declared.Unpacked.TheVariants.{Is, NotAType}
 use Rattle.types.specs.TypeOrder.{unpack}
 use Rattle.types.specs.TypeRules as type
 use Rattle.nodes.specs.declared.Head.{Head}
@@ -23,13 +20,13 @@ use Rattle.nodes.specs.declared.Head.{Head}
 abbrev pub shape_word : Candidate → ℕ
 shape_word x = x.kind + x.first * 0x40 + x.second * 0x40_0000 + x.third * 0x40_0000_0000 + pack x.ty * 0x40_0000_0000_0000
 
-abbrev pub has_sat : Sat → ℕ
-has_sat (Sat.Some d) = 1
-has_sat Sat.None = 0
+abbrev pub has_sat : Option SatData → ℕ
+has_sat (Some d) = 1
+has_sat None = 0
 
-abbrev pub has_dissat_cost : DissatCost → ℕ
-has_dissat_cost (DissatCost.Some d) = 1
-has_dissat_cost DissatCost.None = 0
+abbrev pub has_dissat_cost : Option Float → ℕ
+has_dissat_cost (Some d) = 1
+has_dissat_cost None = 0
 
 -- script cost, static operations, height, and four bits: 22, 22, 16, 1, 1, 1, 1
 abbrev pub script_word : Candidate → ℕ
@@ -41,19 +38,19 @@ script_word x =
     + has_dissat_cost x.cost.dissat_cost * 0x8000_0000_0000_0000
 
 -- the five figures of a worst case in two words, each with half of the operations: 25, 22, 11
-abbrev pub witness_word : Sat → ℕ
-witness_word (Sat.Some d) =
+abbrev pub witness_word : Option SatData → ℕ
+witness_word (Some d) =
     d.max_witness_stack_size + d.max_witness_stack_count * 0x200_0000 + d.max_exec_op_count % 0x800 * 0x8000_0000_0000
-witness_word Sat.None = 0
+witness_word None = 0
 
-abbrev pub stack_word : Sat → ℕ
-stack_word (Sat.Some d) =
+abbrev pub stack_word : Option SatData → ℕ
+stack_word (Some d) =
     d.max_script_sig_size + d.max_exec_stack_count * 0x200_0000 + d.max_exec_op_count / 0x800 * 0x8000_0000_0000
-stack_word Sat.None = 0
+stack_word None = 0
 
-abbrev pub dissat_word : DissatCost → ℕ
-dissat_word (DissatCost.Some d) = word_of_float d
-dissat_word DissatCost.None = 0
+abbrev pub dissat_word : Option Float → ℕ
+dissat_word (Some d) = word_of_float d
+dissat_word None = 0
 
 abbrev pub node_words : Candidate → List ℕ
 node_words x =
@@ -69,17 +66,17 @@ node_words x =
 
 -- ---- words as a candidate
 
-abbrev pub type_or : Unpacked → «Type»
-type_or (Is t) = t
-type_or NotAType = type.FALSE
+abbrev pub type_or : Option «Type» → «Type»
+type_or (Some t) = t
+type_or None = type.FALSE
 
 abbrev pub type_in : ℕ → «Type»
 type_in shape = type_or (unpack (shape / 0x40_0000_0000_0000 % 0x400))
 
-abbrev pub sat_in : (has witness stack : ℕ) → Sat
+abbrev pub sat_in : (has witness stack : ℕ) → Option SatData
 sat_in has witness stack =
     cond (eqb has 1)
-    (Sat.Some
+    (Some
     (record {
       max_witness_stack_size = witness % 0x200_0000;
       max_witness_stack_count = witness / 0x200_0000 % 0x40_0000;
@@ -87,10 +84,10 @@ sat_in has witness stack =
       max_exec_stack_count = stack / 0x200_0000 % 0x40_0000;
       max_exec_op_count = witness / 0x8000_0000_0000 % 0x800 + stack / 0x8000_0000_0000 % 0x800 * 0x800;
     }))
-    Sat.None
+    None
 
-abbrev pub dissat_in : (has word : ℕ) → DissatCost
-dissat_in has word = cond (eqb has 1) (DissatCost.Some (float_of_word word)) DissatCost.None
+abbrev pub dissat_in : (has word : ℕ) → Option Float
+dissat_in has word = cond (eqb has 1) (Some (float_of_word word)) None
 
 abbrev pub ext_in : (script witness stack witness₀ stack₀ : ℕ) → ExtData
 ext_in script witness stack witness₀ stack₀ =

@@ -15,9 +15,9 @@ ghost use Rattle.nodes.specs.Answers.{Holds, Fresh, Adds, OneRow, Begun};
 ghost use Rattle.nodes.specs.Stored.{FitSat, FitExt, ShapeIs, FloatIs, DissatIs, WordsAre, FourIs, RowWordIs, RowWordsAre};
 
 use candidates::Candidate;
-use costs::{Cost, DissatCost};
-use figures::{ExtData, Sat, SatData};
-use types::{Type, Unpacked};
+use costs::Cost;
+use figures::{ExtData, SatData};
+use types::Type;
 use words::{float_of_word, word_of_float};
 
 // The most nodes, and where the rows begin.
@@ -25,30 +25,23 @@ const MAX_NODES: usize = 65536;
 
 const ROWS_FROM: usize = 524296;
 
-// What adding a candidate answers: the number of its node, or that there is room for no more.
-#[derive(Clone, Copy)]
-pub enum Added {
-    At(u16),
-    Full,
-}
-
 // What dissatisfying costs, if a node has such a cost.
-fn dissat_in(has: u64, word: u64) -> DissatCost
+fn dissat_in(has: u64, word: u64) -> Option<f64>
     ensures { result ≡ dissat_in has word }
 {
     if has == 1 {
-        DissatCost::Some(float_of_word(word))
+        Some(float_of_word(word))
     } else {
-        DissatCost::None
+        None
     }
 }
 
 // The worst case of a node's two words, if it has one.
-fn sat_in(has: u64, witness: u64, stack: u64) -> Sat
+fn sat_in(has: u64, witness: u64, stack: u64) -> Option<SatData>
     ensures { result ≡ sat_in has witness stack }
 {
     if has == 1 {
-        Sat::Some(SatData {
+        Some(SatData {
             max_witness_stack_size: witness % 0x200_0000,
             max_witness_stack_count: witness / 0x200_0000 % 0x40_0000,
             max_script_sig_size: stack % 0x200_0000,
@@ -57,7 +50,7 @@ fn sat_in(has: u64, witness: u64, stack: u64) -> Sat
                 + stack / 0x8000_0000_0000 % 0x800 * 0x800,
         })
     } else {
-        Sat::None
+        None
     }
 }
 
@@ -66,8 +59,8 @@ fn type_in(shape: u64) -> Type
     ensures { result ≡ type_in shape }
 {
     match Type::unpack((shape / 0x40_0000_0000_0000 % 0x400) as u32) {
-        Unpacked::Is(ty) => ty,
-        Unpacked::NotAType => Type::of_false(),
+        Some(ty) => ty,
+        None => Type::of_false(),
     }
 }
 
@@ -75,16 +68,12 @@ fn type_in(shape: u64) -> Type
 fn ext_in(script: u64, witness: u64, stack: u64, witness_0: u64, stack_0: u64) -> ExtData
     ensures { result ≡ ext_in script witness stack witness_0 stack_0 }
 {
-    let free = script / 0x1000_0000_0000_0000 % 2;
-    let has_free_verify = free == 1;
-    let sat_data = sat_in(script / 0x2000_0000_0000_0000 % 2, witness, stack);
-    let dissat_data = sat_in(script / 0x4000_0000_0000_0000 % 2, witness_0, stack_0);
     ExtData {
         pk_cost: script % 0x40_0000,
-        has_free_verify,
+        has_free_verify: script / 0x1000_0000_0000_0000 % 2 == 1,
         static_ops: script / 0x40_0000 % 0x40_0000,
-        sat_data,
-        dissat_data,
+        sat_data: sat_in(script / 0x2000_0000_0000_0000 % 2, witness, stack),
+        dissat_data: sat_in(script / 0x4000_0000_0000_0000 % 2, witness_0, stack_0),
         tree_height: script / 0x1000_0000_0000 % 0x1_0000,
     }
 }
@@ -93,11 +82,9 @@ fn ext_in(script: u64, witness: u64, stack: u64, witness_0: u64, stack_0: u64) -
 fn cost_in(script: u64, sat: u64, dissat: u64) -> Cost
     ensures { result ≡ cost_in script sat dissat }
 {
-    let sat_cost = float_of_word(sat);
-    let dissat_cost = dissat_in(script / 0x8000_0000_0000_0000 % 2, dissat);
     Cost {
-        sat_cost,
-        dissat_cost,
+        sat_cost: float_of_word(sat),
+        dissat_cost: dissat_in(script / 0x8000_0000_0000_0000 % 2, dissat),
     }
 }
 
@@ -114,17 +101,14 @@ fn candidate_in(
 ) -> Candidate
     ensures { result ≡ candidate_in shape script witness stack witness_0 stack_0 sat dissat }
 {
-    let ty = type_in(shape);
-    let ext = ext_in(script, witness, stack, witness_0, stack_0);
-    let cost = cost_in(script, sat, dissat);
     Candidate {
         kind: (shape % 0x40) as u16,
         first: (shape / 0x40 % 0x1_0000) as u16,
         second: (shape / 0x40_0000 % 0x1_0000) as u16,
         third: (shape / 0x40_0000_0000 % 0x1_0000) as u16,
-        ty,
-        ext,
-        cost,
+        ty: type_in(shape),
+        ext: ext_in(script, witness, stack, witness_0, stack_0),
+        cost: cost_in(script, sat, dissat),
     }
 }
 
@@ -158,14 +142,10 @@ pub struct Head {
 fn head_in(script: u64, sat: u64, dissat: u64) -> Head
     ensures { result ≡ head_in script sat dissat }
 {
-    let free = script / 0x1000_0000_0000_0000 % 2;
-    let free_verify = free == 1;
-    let pk_cost = (script % 0x40_0000) as u32;
-    let cost = cost_in(script, sat, dissat);
     Head {
-        free_verify,
-        pk_cost,
-        cost,
+        free_verify: script / 0x1000_0000_0000_0000 % 2 == 1,
+        pk_cost: (script % 0x40_0000) as u32,
+        cost: cost_in(script, sat, dissat),
     }
 }
 
@@ -199,27 +179,21 @@ pub fn count(work: &[u64]) -> usize
 fn bit(b: bool) -> u64
     ensures { (result ≡ bool_rank b) × (result < 2) }
 {
-    if b { 1 } else { 0 }
+    b as u64
 }
 
 // Whether there is a worst case, as a digit.
-fn has_sat(x: Sat) -> u64
+fn has_sat(x: Option<SatData>) -> u64
     ensures { (result ≡ has_sat x) × (result < 2) }
 {
-    match x {
-        Sat::Some(_) => 1,
-        Sat::None => 0,
-    }
+    x.is_some() as u64
 }
 
 // Whether dissatisfying has a cost, as a digit.
-fn has_dissat_cost(x: DissatCost) -> u64
+fn has_dissat_cost(x: Option<f64>) -> u64
     ensures { (result ≡ has_dissat_cost x) × (result < 2) }
 {
-    match x {
-        DissatCost::Some(_) => 1,
-        DissatCost::None => 0,
-    }
+    x.is_some() as u64
 }
 
 // The first word of a node.
@@ -227,8 +201,7 @@ fn shape_word(x: Candidate) -> u64
     requires { x.kind < 0x40 }
     ensures { ShapeIs x result }
 {
-    let ty = x.ty;
-    let packed = ty.pack() as u64;
+    let packed = x.ty.pack() as u64;
     (x.kind as u64)
         + (x.first as u64) * 0x40
         + (x.second as u64) * 0x40_0000
@@ -242,14 +215,10 @@ fn script_word(x: Candidate) -> u64
     ensures { result ≡ script_word x }
 {
     let ext = x.ext;
-    let cost = x.cost;
-    let sat_data = ext.sat_data;
-    let dissat_data = ext.dissat_data;
-    let dissat_cost = cost.dissat_cost;
     let free = bit(ext.has_free_verify);
-    let sat = has_sat(sat_data);
-    let dissat = has_sat(dissat_data);
-    let costed = has_dissat_cost(dissat_cost);
+    let sat = has_sat(ext.sat_data);
+    let dissat = has_sat(ext.dissat_data);
+    let costed = has_dissat_cost(x.cost.dissat_cost);
     ext.pk_cost
         + ext.static_ops * 0x40_0000
         + ext.tree_height * 0x1000_0000_0000
@@ -260,28 +229,28 @@ fn script_word(x: Candidate) -> u64
 }
 
 // The first word of a worst case.
-fn witness_word(x: Sat) -> u64
+fn witness_word(x: Option<SatData>) -> u64
     requires { FitSat x }
     ensures { result ≡ witness_word x }
 {
     match x {
-        Sat::Some(d) => d.max_witness_stack_size
+        Some(d) => d.max_witness_stack_size
             + d.max_witness_stack_count * 0x200_0000
             + d.max_exec_op_count % 0x800 * 0x8000_0000_0000,
-        Sat::None => 0,
+        None => 0,
     }
 }
 
 // The second word of a worst case.
-fn stack_word(x: Sat) -> u64
+fn stack_word(x: Option<SatData>) -> u64
     requires { FitSat x }
     ensures { result ≡ stack_word x }
 {
     match x {
-        Sat::Some(d) => d.max_script_sig_size
+        Some(d) => d.max_script_sig_size
             + d.max_exec_stack_count * 0x200_0000
             + d.max_exec_op_count / 0x800 * 0x8000_0000_0000,
-        Sat::None => 0,
+        None => 0,
     }
 }
 
@@ -293,12 +262,12 @@ fn cost_word(x: f64) -> u64
 }
 
 // The word of what dissatisfying costs.
-fn dissat_word(x: DissatCost) -> u64
+fn dissat_word(x: Option<f64>) -> u64
     ensures { DissatIs x result }
 {
     match x {
-        DissatCost::Some(cost) => cost_word(cost),
-        DissatCost::None => 0,
+        Some(cost) => cost_word(cost),
+        None => 0,
     }
 }
 
@@ -308,19 +277,15 @@ fn words_of(x: Candidate) -> [u64; 8]
     ensures { WordsAre x result }
 {
     let ext = x.ext;
-    let cost = x.cost;
-    let sat_data = ext.sat_data;
-    let dissat_data = ext.dissat_data;
-    let dissat_cost = cost.dissat_cost;
     [
         shape_word(x),
         script_word(x),
-        witness_word(sat_data),
-        stack_word(sat_data),
-        witness_word(dissat_data),
-        stack_word(dissat_data),
-        cost_word(cost.sat_cost),
-        dissat_word(dissat_cost),
+        witness_word(ext.sat_data),
+        stack_word(ext.sat_data),
+        witness_word(ext.dissat_data),
+        stack_word(ext.dissat_data),
+        cost_word(x.cost.sat_cost),
+        dissat_word(x.cost.dissat_cost),
     ]
 }
 
@@ -329,26 +294,22 @@ fn put_words(work: &mut [u64], at: usize, words: &[u64])
     requires { at + length words.now ≤ length work.old }
     ensures { work.new ≡ sets work.old at words.now }
 {
-    let mut j = 0;
-    while j < words.len() {
-        work[at + j] = words[j];
-        j += 1;
-    }
+    work[at..at + words.len()].copy_from_slice(words);
 }
 
 // Adds a candidate as the next node, if there is room for one.
-pub fn add(work: &mut [u64], x: Candidate) -> Added
+pub fn add(work: &mut [u64], x: Candidate) -> Option<u16>
     requires { Holds work.old × Fresh work.old x }
     ensures { Adds work.old work.new x result }
 {
     let n = work[0] as usize;
     if n == MAX_NODES {
-        return Added::Full;
+        return None;
     }
     let words = words_of(x);
     put_words(work, 8 * n + 8, &words);
     work[0] = (n + 1) as u64;
-    Added::At(n as u16)
+    Some(n as u16)
 }
 
 // Four numbers in a word.

@@ -1,7 +1,7 @@
 -- Numbers read digit by digit. Assumes nothing.
 use mathlib.Core.Bool.{Bool, true, false, cond, ◌&&◌}
 use mathlib.Core.List.{List, [], ◌∷◌}
-use mathlib.Core.Option.{Option, none, some}
+use Rattle.std.specs.Prelude.{Option, None, Some}
 use mathlib.Core.Path.{◌≡◌, refl, ap, ◌∙◌}
 use Prim.Native.Nat.{ℕ, suc, ◌+◌, ◌-◌, ◌*◌, ◌^◌, ◌<◌, ◌≤◌}
 use native.Mathlib.Nat.{pow-zero, pow-suc, pow-le-pow_right, mul-le-mul_right, add-mul, mul_assoc, mul_comm}
@@ -34,7 +34,7 @@ above-f b h = rw (le-leb 48 b (omega arith), lt-leb b 57 (omega arith), le-leb 6
 
 -- the number that n becomes as digits of a base are written after it
 abbrev pub number_after : (base n : ℕ) → List ℕ → Option ℕ
-number_after base n w = cond (all_digits base w) (some (n * base ^ length w + value base w)) none
+number_after base n w = cond (all_digits base w) (Some (n * base ^ length w + value base w)) None
 
 -- the number n of the first i digits
 pub record Read (base : ℕ) (w : List ℕ) (n i : ℕ) : Type 0 where
@@ -50,28 +50,28 @@ shifted base n d p v =
 
 -- a digit more
 number-cons : (base n b : ℕ) (w : List ℕ)
-    → number_after base n (b ∷ w) ≡ cond (ltb (digit b) base) (number_after base (n * base + digit b) w) none
+    → number_after base n (b ∷ w) ≡ cond (ltb (digit b) base) (number_after base (n * base + digit b) w) None
 unfolding all_digits value
 number-cons base n b w = go (ltb (digit b) base)
   where
     go : (t : Bool)
-        → cond (t && all_digits base w) (some (n * base ^ length (b ∷ w) + (digit b * base ^ length w + value base w))) none
-        ≡ cond t (number_after base (n * base + digit b) w) none
+        → cond (t && all_digits base w) (Some (n * base ^ length (b ∷ w) + (digit b * base ^ length w + value base w))) None
+        ≡ cond t (number_after base (n * base + digit b) w) None
     go true =
-        ap (λ (m : ℕ). cond (all_digits base w) (some m) none)
+        ap (λ (m : ℕ). cond (all_digits base w) (Some m) None)
         (rw (pow-suc base (length w)) (shifted base n (digit b) (base ^ length w) (value base w)))
     go false = refl
 
-number-nil : (base n : ℕ) → number_after base n [] ≡ some n
+number-nil : (base n : ℕ) → number_after base n [] ≡ Some n
 unfolding all_digits value
-number-nil base n = ap some (let one : n * base ^ 0 + 0 ≡ n * 1 + 0 = rw (pow-zero base) in omega arith)
+number-nil base n = ap Some (let one : n * base ^ 0 + 0 ≡ n * 1 + 0 = rw (pow-zero base) in omega arith)
 
 module _ (base : ℕ) (w : List ℕ) where
   pub read_none : Read base w 0 0
   read_none = record {
     within = omega arith;
     small = omega (arith, pow-zero base);
-    goes = ap (λ (m : ℕ). cond (all_digits base w) (some m) none) (omega arith);
+    goes = ap (λ (m : ℕ). cond (all_digits base w) (Some m) None) (omega arith);
   }
 
   -- one digit more is below one power more
@@ -82,10 +82,10 @@ module _ (base : ℕ) (w : List ℕ) where
       omega (arith, e, m)
 
   module _ (n i : ℕ) (r : Read base w n i) (h : i < length w) where
-    next : number_in base w ≡ cond (ltb (digit (get_or w i 0)) base) (number_after base (n * base + digit (get_or w i 0)) (drop (suc i) w)) none
+    next : number_in base w ≡ cond (ltb (digit (get_or w i 0)) base) (number_after base (n * base + digit (get_or w i 0)) (drop (suc i) w)) None
     next = r.goes ∙ ap (number_after base n) (drop-cons w i 0 h) ∙ number-cons base n (get_or w i 0) (drop (suc i) w)
 
-    pub no_digit : (d : ℕ) → d ≡ digit (get_or w i 0) → base ≤ d → none ≡ number_in base w
+    pub no_digit : (d : ℕ) → d ≡ digit (get_or w i 0) → base ≤ d → None ≡ number_in base w
     no_digit d e k = rw (next, le-ltb (digit (get_or w i 0)) base (rw (← e) k))
 
     pub read_next : (d : ℕ) → d ≡ digit (get_or w i 0) → d < base → Read base w (n * base + d) (i + 1)
@@ -100,7 +100,7 @@ module _ (base : ℕ) (w : List ℕ) where
         let up : base ^ suc i ≤ base ^ length w = pow-le-pow_right (omega arith) (omega arith) in
         omega (arith, more-small n i d r.small k, up)
 
-  pub read_all : (n i : ℕ) → Read base w n i → (i < length w → ⊥) → number_in base w ≡ some n
+  pub read_all : (n i : ℕ) → Read base w n i → (i < length w → ⊥) → number_in base w ≡ Some n
   read_all n i r ended =
       let e : i ≡ length w = omega (arith, r.within) in
       r.goes ∙ ap (number_after base n) (ap (λ (k : ℕ). drop k w) e ∙ drop-length w) ∙ number-nil base n
@@ -108,11 +108,11 @@ module _ (base : ℕ) (w : List ℕ) where
 -- ---- a word that is a number
 
 module _ (w : List ℕ) where
-  pub no-digits : length w ≡ 0 → decimal w ≡ none
+  pub no-digits : length w ≡ 0 → decimal w ≡ None
   unfolding decimal
   no-digits h = rw (lt-leb 1 (length w) (omega arith))
 
-  pub many-digits : 10 < length w → decimal w ≡ none
+  pub many-digits : 10 < length w → decimal w ≡ None
   unfolding decimal
   many-digits h = rw (le-leb 1 (length w) (omega arith), lt-leb (length w) 10 h)
 
@@ -126,20 +126,20 @@ module _ (w : List ℕ) where
       omega arith
 
   module _ (h : (length w ≡ 0 → ⊥)) (k : length w ≤ 10) where
-    pub decimal-fits : (n : ℕ) → number_in 10 w ≡ some n → n < 4294967296 → decimal w ≡ some n
+    pub decimal-fits : (n : ℕ) → number_in 10 w ≡ Some n → n < 4294967296 → decimal w ≡ Some n
     decimal-fits n e f = decimal-read h k ∙ ap (below (2 ^ 32)) e ∙ rw (lt-ltb n (2 ^ 32) f)
 
-    pub decimal-large : (n : ℕ) → number_in 10 w ≡ some n → 4294967296 ≤ n → decimal w ≡ none
+    pub decimal-large : (n : ℕ) → number_in 10 w ≡ Some n → 4294967296 ≤ n → decimal w ≡ None
     decimal-large n e f = decimal-read h k ∙ ap (below (2 ^ 32)) e ∙ rw (le-ltb n (2 ^ 32) f)
 
-    pub decimal-missing : number_in 10 w ≡ none → decimal w ≡ none
+    pub decimal-missing : number_in 10 w ≡ None → decimal w ≡ None
     decimal-missing e = decimal-read h k ∙ ap (below (2 ^ 32)) e
 
   pub bits-read : length w ≡ 16 → number_in 16 w ≡ bits w
   unfolding bits
   bits-read h = rw (eq-eqb (length w) 16 h)
 
-  pub bits-missing : (length w ≡ 16 → ⊥) → bits w ≡ none
+  pub bits-missing : (length w ≡ 16 → ⊥) → bits w ≡ None
   unfolding bits
   bits-missing h = rw (ne_eqb (length w) 16 h)
 

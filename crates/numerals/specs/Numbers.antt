@@ -1,9 +1,6 @@
 -- The number that a word writes: the CONTEXT of docs/CONSOLE.md and the numbers of docs/BENCH.md, "The stored list". A word is a list of bytes, in
 -- ASCII. Assumes nothing.
-use Rattle.std.specs.Prelude.{Bool, true, cond, ◌&&◌, List, [], ◌∷◌, ℕ, ◌+◌, ◌-◌, ◌*◌, ◌^◌, leb, ltb, eqb, length}
-use Rattle.std.proofs.Math.Option.{Option, none, some}
-use Rattle.numerals.specs.declared.Number32.{Number32}
-use Rattle.numerals.specs.declared.Number64.{Number64}
+use Rattle.std.specs.Prelude.{Bool, true, cond, ◌&&◌, List, [], ◌∷◌, ℕ, ◌+◌, ◌-◌, ◌*◌, ◌^◌, leb, ltb, eqb, length, Option, None, Some}
 
 -- the value of a digit, 0 to 9 and A to F; 16 for any other sign
 abbrev pub digit : ℕ → ℕ
@@ -21,25 +18,16 @@ value base (b ∷ w) = digit b * base ^ length w + value base w
 
 -- the number that digits of a base write, none where a sign is no such digit
 abbrev pub number_in : (base : ℕ) → List ℕ → Option ℕ
-number_in base w = cond (all_digits base w) (some (value base w)) none
+number_in base w = cond (all_digits base w) (Some (value base w)) None
 
 abbrev pub below : ℕ → Option ℕ → Option ℕ
-below limit none = none
-below limit (some n) = cond (ltb n limit) (some n) none
+below limit None = None
+below limit (Some n) = cond (ltb n limit) (Some n) None
 
 -- a decimal number of 32 bits, in 1 to 10 digits
 unfoldable pub decimal : List ℕ → Option ℕ
-decimal w = cond (leb 1 (length w) && leb (length w) 10) (below (2 ^ 32) (number_in 10 w)) none
+decimal w = cond (leb 1 (length w) && leb (length w) 10) (below (2 ^ 32) (number_in 10 w)) None
 
 -- 64 bits, in 16 hexadecimal digits
 unfoldable pub bits : List ℕ → Option ℕ
-bits w = cond (eqb (length w) 16) (number_in 16 w) none
-
--- the number that was found
-abbrev pub found32 : Number32 → Option ℕ
-found32 (Number32.Is n) = some n
-found32 Number32.Missing = none
-
-abbrev pub found64 : Number64 → Option ℕ
-found64 (Number64.Is n) = some n
-found64 Number64.Missing = none
+bits w = cond (eqb (length w) 16) (number_in 16 w) None

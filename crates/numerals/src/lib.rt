@@ -4,7 +4,7 @@
 #![tactic(auto)]
 
 ghost use Rattle.std.specs.Prelude.{◌≡◌, ◌^◌, ◌≤◌, length};
-ghost use Rattle.numerals.specs.Numbers.{number_in, found32, found64};
+ghost use Rattle.numerals.specs.Numbers.{number_in};
 ghost use Rattle.numerals.specs.Numbers.{digit as Numbers·digit, decimal as Numbers·decimal, bits as Numbers·bits};
 
 // What is no digit has this value.
@@ -14,20 +14,6 @@ pub const NO_DIGIT: u8 = 16;
 const MAX_DIGITS: usize = 10;
 
 const TOO_LARGE: u64 = 4_294_967_296;
-
-// What reading a number of 32 bits finds.
-#[derive(Clone, Copy)]
-pub enum Number32 {
-    Is(u32),
-    Missing,
-}
-
-// What reading a number of 64 bits finds.
-#[derive(Clone, Copy)]
-pub enum Number64 {
-    Is(u64),
-    Missing,
-}
 
 // The value of an upper-case hexadecimal digit, 16 for any other sign.
 pub fn digit(b: u8) -> u8
@@ -41,49 +27,44 @@ pub fn digit(b: u8) -> u8
 }
 
 // The number that the digits of a word write.
-fn number_in(base: u64, word: &[u8]) -> Number64
+fn number_in(base: u64, word: &[u8]) -> Option<u64>
     requires { base ^ length word.now ≤ 2 ^ 64 }
-    ensures { found64 result ≡ number_in base word.now }
+    ensures { result ≡ number_in base word.now }
 {
     let mut n = 0;
-    let mut i = 0;
-    while i < word.len() {
-        let d = digit(word[i]) as u64;
+    for b in word {
+        let d = digit(*b) as u64;
         if base <= d {
-            return Number64::Missing;
+            return None;
         }
         n = n * base + d;
-        i += 1;
     }
-    Number64::Is(n)
+    Some(n)
 }
 
 // A decimal number of 32 bits, in 1 to 10 digits.
-pub fn decimal(word: &[u8]) -> Number32
-    ensures { found32 result ≡ Numbers·decimal word.now }
+pub fn decimal(word: &[u8]) -> Option<u32>
+    ensures { result ≡ Numbers·decimal word.now }
 {
-    if word.len() == 0 {
-        return Number32::Missing;
+    if word.is_empty() {
+        return None;
     }
     if MAX_DIGITS < word.len() {
-        return Number32::Missing;
+        return None;
     }
-    match number_in(10, word) {
-        Number64::Is(n) => if n < TOO_LARGE {
-            Number32::Is(n as u32)
-        } else {
-            Number32::Missing
-        },
-        Number64::Missing => Number32::Missing,
+    let n = number_in(10, word)?;
+    if TOO_LARGE <= n {
+        return None;
     }
+    Some(n as u32)
 }
 
 // 64 bits, in 16 hexadecimal digits.
-pub fn bits(word: &[u8]) -> Number64
-    ensures { found64 result ≡ Numbers·bits word.now }
+pub fn bits(word: &[u8]) -> Option<u64>
+    ensures { result ≡ Numbers·bits word.now }
 {
     if word.len() == 16 {
         return number_in(16, word);
     }
-    Number64::Missing
+    None
 }

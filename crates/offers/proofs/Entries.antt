@@ -1,5 +1,8 @@
 -- The casts of the entries of a slot in turn: the entries that are still to come, on the table made by then, give what all entries give on the
 -- table at first. Assumes nothing.
+use Rattle.refusals.specs.declared.Refusal.{Refusal}
+use Rattle.std.specs.Prelude.{Result, Ok, Err, true, false, is_err}
+use mathlib.Core.Bool.{true≢false}
 use mathlib.Core.Path.{◌≡◌, refl, sym, ◌∙◌, ap}
 use mathlib.Core.List.{List, [], ◌∷◌, map}
 use Prim.Native.Nat.{ℕ, zero, suc, ◌+◌, ◌<◌}
@@ -25,13 +28,12 @@ use Rattle.table.specs.declared.Table.{Table}
 use Rattle.table.specs.Rows.{TableHolds}
 use Rattle.table.specs.Inserted.{state_of, seen_table, Extends}
 use Rattle.table.proofs.Kept.{extends-refl, extends-trans}
-use Rattle.closure.specs.declared.End.{End}
-use Rattle.closure.specs.declared.End.TheVariants.{Done, Refused}
 use Rattle.closure.specs.declared.Closed.{Closed}
 use Rattle.closure.specs.Closed.{answer}
 use Rattle.closure.proofs.Offering.{closed}
 use Rattle.search_state.specs.State.{slot_table}
 use Rattle.offers.specs.Offering.{InsertedCast, SlotReady, InsertedCasts}
+use Rattle.offers.proofs.Ends.{end-done}
 
 -- ---- the entries of a slot
 
@@ -100,16 +102,17 @@ module _ (c : Context) (p : Probs) {s number : ℕ} {t₀ : Table} {m₀ : List 
   pub entries-begin : Holds m₀ → TableHolds m₀ t₀ → Entries c p s number t₀ m₀ 0 t₀ m₀
   entries-begin holds table = record { says = λ pol ts. refl; extends = extends-refl holds; table = table }
 
-  pub entries-end : {t : Table} {m : List ℕ} {j : ℕ} → Entries c p s number t₀ m₀ j t m → j ≡ length (slot_at m₀ s).entries →
-      InsertedCasts c p s number t₀ (closed t Done) m₀ m
-  entries-end {t} {m} {j} i is =
+  pub entries-end : {r : Closed} {m : List ℕ} {j : ℕ} → Entries c p s number t₀ m₀ j r.table m → r.end ≡ Ok tt → j ≡ length (slot_at m₀ s).entries →
+      InsertedCasts c p s number t₀ r m₀ m
+  entries-end {r} {m} {j} i end is =
       record {
         says =
             λ pol ts.
             sym (i.says pol ts)
-            ∙ ap (λ (xs : definition.Table). for_each (casting c p number) xs (seen_table pol m t) (state_of m ts))
+            ∙ ap (λ (xs : definition.Table). for_each (casting c p number) xs (seen_table pol m r.table) (state_of m ts))
             (seen-out (seen pol m₀) (slot_at m₀ s).entries j is)
-            ∙ for_each-none (casting c p number) (seen_table pol m t) (state_of m ts);
+            ∙ for_each-none (casting c p number) (seen_table pol m r.table) (state_of m ts)
+            ∙ sym (ap (λ (end : Result (Unit {0}) Refusal). answer end (seen_table pol m r.table) (state_of m ts)) end);
         extends = i.extends;
         table = i.table;
       }
@@ -134,26 +137,34 @@ module _ (c : Context) (p : Probs) {s number : ℕ} {t₀ : Table} {m₀ : List 
         ∙ ap (λ (x : Candidate). then (casting c p number x (seen_table pol m t) (state_of m ts)) (after c p s number pol m₀ j)) (entry_seen pol)
         ∙ ap (λ (a : Res definition.Table). then a (after c p s number pol m₀ j)) (one.says pol ts)
 
-    pub entries-refused : {n : ℕ} → r.end ≡ Refused n → InsertedCasts c p s number t₀ (closed r.table (Refused n)) m₀ m'
+    entries-refused : {n : Refusal} → r.end ≡ Err n → InsertedCasts c p s number t₀ (closed r.table (Err n)) m₀ m'
     entries-refused end =
         record {
           says =
               λ pol ts.
               sym (i.says pol ts)
               ∙ step pol ts
-              ∙ then-refused (after c p s number pol m₀ j) (ap (λ (end : End). answer end (seen_table pol m' r.table) (state_of m' ts)) end);
+              ∙ then-refused (after c p s number pol m₀ j) (ap (λ (end : Result (Unit {0}) Refusal). answer end (seen_table pol m' r.table) (state_of m' ts)) end);
           extends = extends-trans i.extends one.extends;
           table = one.table;
         }
 
-    pub entries-go-on : r.end ≡ Done → Entries c p s number t₀ m₀ (j + 1) r.table m'
-    entries-go-on end =
+    pub entries-stop : is_err r.end ≡ true → InsertedCasts c p s number t₀ r m₀ m'
+    entries-stop = by_end r.end refl
+      where
+        by_end : (end : Result (Unit {0}) Refusal) → r.end ≡ end → is_err end ≡ true → InsertedCasts c p s number t₀ (closed r.table end) m₀ m'
+        by_end (Ok tt) is e = absurd (true≢false (sym e))
+        by_end (Err n) is e = entries-refused is
+
+    pub entries-go-on : is_err r.end ≡ false → Entries c p s number t₀ m₀ (j + 1) r.table m'
+    entries-go-on well =
+        let end = end-done r.end well in
         record {
           says =
               λ pol ts.
               ap (λ (n : ℕ). for_each (casting c p number) (drop n (slot_table pol m₀ s)) (seen_table pol m' r.table) (state_of m' ts)) (add-one j)
               ∙ sym (step pol ts
-              ∙ then-done (after c p s number pol m₀ j) (ap (λ (end : End). answer end (seen_table pol m' r.table) (state_of m' ts)) end))
+              ∙ then-done (after c p s number pol m₀ j) (ap (λ (end : Result (Unit {0}) Refusal). answer end (seen_table pol m' r.table) (state_of m' ts)) end))
               ∙ i.says pol ts;
           extends = extends-trans i.extends one.extends;
           table = one.table;

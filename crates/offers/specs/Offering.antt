@@ -1,17 +1,14 @@
 -- What is offered to a table by the search of a leaf, and by the casts of a remembered table's entries, by the definition (definition,
 -- specs/Search.antt) on what work memory stands for. Assumes nothing.
-use Rattle.std.specs.Prelude.{Bool, true, false, cond, List, [], ◌∷◌, ◌≡◌, ℕ, ◌<◌}
+use Rattle.candidates.specs.declared.NotMade.{NotMade}
+use Rattle.std.specs.Prelude.{Bool, true, false, cond, List, [], ◌∷◌, ◌≡◌, ℕ, ◌<◌, Float, Option, None, Some, Result, Ok, Err}
 use Rattle.contexts.specs.declared.Context.{Context}
-use Rattle.costs.specs.declared.DissatProb.{DissatProb}
-use Rattle.costs.specs.declared.DissatProb.TheVariants as Prob
 use Rattle.figures.specs.Bounds.{Small}
 use Rattle.policies.specs.Policy.{Policy}
 use Rattle.policies.specs.Forms.{kind_of, number_of}
 use Rattle.policies.specs.Array.{policy_at}
 use Rattle.writing.specs.WellFormed.{AllBelow}
 use Rattle.candidates.specs.declared.Candidate as node
-use Rattle.candidates.specs.declared.Made.{Made}
-use Rattle.candidates.specs.declared.Made.TheVariants as Made
 use Rattle.definition.specs.Candidates.{cast_no}
 use Rattle.definition.specs.Tables.{Probs}
 use Rattle.definition.specs.Refusals.{Stored}
@@ -26,7 +23,6 @@ use Rattle.cache.specs.Slots.{slot_at, Kept}
 use Rattle.table.specs.declared.Table as code-table
 use Rattle.table.specs.Rows.{TableHolds, priced_as, turns_away}
 use Rattle.table.specs.Inserted.{state_of, seen_table, Extends}
-use Rattle.closure.specs.declared.End.TheVariants.{Done}
 use Rattle.closure.specs.declared.Closed.{Closed}
 use Rattle.closure.specs.Closed.{answer}
 use Rattle.search_state.specs.State.{slot_table}
@@ -42,7 +38,7 @@ pub record IsLeaf (q : Policy) (kind number : ℕ) : Type 0 where
 
 pub record Empty (c : Closed) : Type 0 where
   pub none : c.table.len ≡ 0
-  pub done : c.end ≡ Done
+  pub done : c.end ≡ Ok tt
 
 -- the candidate of a leaf that is no key
 pub record LeafOf (kind number r : ℕ) (x : node.Candidate) : Type 0 where
@@ -53,18 +49,18 @@ pub record LeafOf (kind number r : ℕ) (x : node.Candidate) : Type 0 where
 -- ---- what was made of others
 
 -- a candidate is offered with nothing more: there is no dissatisfaction, or the table is settled
-abbrev pub alone : DissatProb → Bool → Bool
-alone (Prob.Some d) settled = settled
-alone Prob.None settled = true
+abbrev pub alone : Option Float → Bool → Bool
+alone (Some d) settled = settled
+alone None settled = true
 
 -- what leaves a table as it is: what was passed over, and what is offered alone and turned away by its type and its cost
-abbrev pub leaves_all : List ℕ → Probs → (settled : Bool) → Made → List ℕ → Bool
-leaves_all m p settled (Made.Candidate y) es = cond (alone p.dissat settled) (turns_away m p (priced_as p y) es) false
-leaves_all m p settled Made.PassedOver es = true
-leaves_all m p settled Made.Missing es = false
+abbrev pub leaves_all : List ℕ → Probs → (settled : Bool) → Result node.Candidate NotMade → List ℕ → Bool
+leaves_all m p settled (Ok y) es = cond (alone p.dissat settled) (turns_away m p (priced_as p y) es) false
+leaves_all m p settled (Err NotMade.PassedOver) es = true
+leaves_all m p settled (Err NotMade.Missing) es = false
 
-pub record SmallIfMade (x : Made) : Type 0 where
-  pub small : (y : node.Candidate) → x ≡ Made.Candidate y → Small y.ext
+pub record SmallIfMade (x : Result node.Candidate NotMade) : Type 0 where
+  pub small : (y : node.Candidate) → x ≡ Ok y → Small y.ext
 
 -- ---- casts of the entries of a slot
 

@@ -11,23 +11,21 @@ ghost use Rattle.nodes.specs.Answers.{Holds};
 ghost use Rattle.table.specs.Rows.{TableHolds};
 ghost use Rattle.offers.specs.Offering.{Empty, LeafOf, alone, leaves_all, SmallIfMade, InsertedCast, SlotReady, InsertedCasts};
 
-use candidates::{Candidate, CastResult, Made};
-use closure::{Closed, End};
+use candidates::{Candidate, NotMade};
+use closure::Closed;
 use contexts::Context;
-use costs::DissatProb;
 use table::Table;
 
 // A table with no entry.
 pub fn empty() -> Closed
     ensures { Empty result }
 {
-    let table = Table {
-        entries: [0u16; 128],
-        len: 0,
-    };
     Closed {
-        table,
-        end: End::Done,
+        table: Table {
+            entries: [0; 128],
+            len: 0,
+        },
+        end: Ok(()),
     }
 }
 
@@ -35,34 +33,32 @@ pub fn empty() -> Closed
 pub fn leaf_of(kind: u64, number: u64, r: u16) -> Candidate
     ensures { LeafOf kind number r result }
 {
+    // A kind stays a number: a record or a node holds one, and the contract answers on every number.
     match kind {
-        2..=2 => Candidate::of_true(),
-        4..=4 => Candidate::after((number % 0x1_0000_0000) as u32, r),
-        5..=5 => Candidate::older((number % 0x1_0000_0000) as u32, r),
-        6..=6 => Candidate::sha256(r),
-        7..=7 => Candidate::hash256(r),
-        8..=8 => Candidate::ripemd160(r),
-        9..=9 => Candidate::hash160(r),
+        2 => Candidate::of_true(),
+        4 => Candidate::after((number % 0x1_0000_0000) as u32, r),
+        5 => Candidate::older((number % 0x1_0000_0000) as u32, r),
+        6 => Candidate::sha256(r),
+        7 => Candidate::hash256(r),
+        8 => Candidate::ripemd160(r),
+        9 => Candidate::hash160(r),
         _ => Candidate::of_false(),
     }
 }
 
 // Whether a candidate is offered with nothing more: there is no dissatisfaction, or the table is settled.
-fn alone(dissat: DissatProb, settled: bool) -> bool
+fn alone(dissat: Option<f64>, settled: bool) -> bool
     ensures { result ≡ alone dissat settled }
 {
-    match dissat {
-        DissatProb::Some(_) => settled,
-        DissatProb::None => true,
-    }
+    settled || dissat.is_none()
 }
 
 // Whether what was made leaves a table with these first n entries as it is: it was passed over, or it is turned away by its type and its cost.
 pub fn leaves_all(
     work: &[u64],
     sat: f64,
-    dissat: DissatProb,
-    x: Made,
+    dissat: Option<f64>,
+    x: Result<Candidate, NotMade>,
     settled: bool,
     entries: &[u16],
     n: usize,
@@ -71,14 +67,9 @@ pub fn leaves_all(
     ensures { result ≡ leaves_all work.now (probs sat dissat) settled x (take n entries.now) }
 {
     match x {
-        Made::Candidate(y) => {
-            if alone(dissat, settled) {
-                return table::turns_away(work, entries, n, sat, dissat, y);
-            }
-            false
-        }
-        Made::PassedOver => true,
-        Made::Missing => false,
+        Ok(y) => alone(dissat, settled) && table::turns_away(work, entries, n, sat, dissat, y),
+        Err(NotMade::PassedOver) => true,
+        Err(NotMade::Missing) => false,
     }
 }
 
@@ -87,7 +78,7 @@ pub fn insert_cast(
     context: Context,
     work: &mut [u64],
     sat: f64,
-    dissat: DissatProb,
+    dissat: Option<f64>,
     e: u16,
     number: u8,
     t: Table,
@@ -95,16 +86,11 @@ pub fn insert_cast(
     requires { Holds work.old × (TableHolds work.old t × ((e < node_count work.old) × (number < 10))) }
     ensures { InsertedCast context (probs sat dissat) e number t result work.old work.new }
 {
-    let x = nodes::node(work, e);
-    match x.cast(context, e, number) {
-        CastResult::Cast(y) => closure::insert_closure(context, work, sat, dissat, y, t),
-        CastResult::IllTyped => Closed {
+    match nodes::node(work, e).cast(context, e, number) {
+        Ok(y) => closure::insert_closure(context, work, sat, dissat, y, t),
+        Err(_) => Closed {
             table: t,
-            end: End::Done,
-        },
-        CastResult::Unknown => Closed {
-            table: t,
-            end: End::Done,
+            end: Ok(()),
         },
     }
 }
@@ -114,7 +100,7 @@ pub fn cast_entries(
     context: Context,
     work: &mut [u64],
     sat: f64,
-    dissat: DissatProb,
+    dissat: Option<f64>,
     s: u16,
     number: u8,
     t: Table,
@@ -123,26 +109,16 @@ pub fn cast_entries(
     ensures { InsertedCasts context (probs sat dissat) s number t result work.old work.new }
 {
     let n = cache::length_of(work, s);
-    let mut table = t;
-    let mut j = 0;
-    while j < n {
+    let mut done = Closed {
+        table: t,
+        end: Ok(()),
+    };
+    for j in 0..n {
         let e = cache::entry(work, s, j);
-        let c = insert_cast(context, work, sat, dissat, e, number, table);
-        table = c.table;
-        let end = c.end;
-        match end {
-            End::Refused(no) => {
-                return Closed {
-                    table,
-                    end: End::Refused(no),
-                };
-            }
-            End::Done => {}
+        done = insert_cast(context, work, sat, dissat, e, number, done.table);
+        if done.end.is_err() {
+            return done;
         }
-        j += 1;
     }
-    Closed {
-        table,
-        end: End::Done,
-    }
+    done
 }

@@ -4,27 +4,9 @@
 #![tactic(auto)]
 
 ghost use Rattle.std.specs.Prelude.{◌≡◌, ◌<◌};
-ghost use Rattle.definition.specs.AnswersOfTheRust.{same_bytes};
 ghost use Rattle.oracle_answers.specs.Answers.{answers};
 
 use oracle_lines::Said;
-
-// Whether a and b hold the same bytes.
-fn same_bytes(a: &[u8], b: &[u8]) -> bool
-    ensures { result ≡ same_bytes a.now b.now }
-{
-    if a.len() != b.len() {
-        return false;
-    }
-    let mut i = 0;
-    while i < a.len() {
-        if a[i] != b[i] {
-            return false;
-        }
-        i += 1;
-    }
-    true
-}
 
 // Whether what was given for a case is what its line says: the number, the output, the bits of the cost, whether it is never, and the nodes.
 pub fn agrees(
@@ -38,7 +20,7 @@ pub fn agrees(
 ) -> bool
     ensures { result ≡ answers said number written.now stored.now cost never nodes }
 {
-    let same = same_bytes(written, stored);
+    let same = written == stored;
     let told = (cost == said.cost) & (never == said.never);
     (number == said.number) & (same & (told & (nodes == said.nodes as u64)))
 }
@@ -62,19 +44,15 @@ fn show_records(rt: &impl Print, s: &[u8]) {
         let _ = rt.write_all(b"-");
         return;
     }
-    let mut i = 0;
-    while i < s.len() {
+    for i in 0..s.len() {
         show_byte(rt, s[i]);
-        i += 1;
     }
 }
 
 // Writes 64 bits as the list has them.
 fn show_bits(rt: &impl Print, w: u64) {
-    let mut place: u64 = 72_057_594_037_927_936;
-    while 0 < place {
-        show_byte(rt, (w / place % 256) as u8);
-        place /= 256;
+    for b in &w.to_be_bytes() {
+        show_byte(rt, *b);
     }
 }
 

@@ -10,7 +10,7 @@ use lib.Dec.{eqb}
 use lib.ListN.{length, drop, get_or, length-drop}
 use lib.Seq.{take-suc, drop-cons, drop-length, get_or-drop}
 use Rattle.oracle_lines.specs.Lines.{on_first, split, space}
-use Rattle.oracle_lines.specs.declared.Words.TheVariants as Words
+use Rattle.std.specs.Prelude.{None, Some}
 use Rattle.oracle_lines.specs.Reads.{part, EndsAt, SixWords, six, other}
 
 -- ---- pieces
@@ -121,24 +121,24 @@ module _ (sign : ℕ) (s : List ℕ) (from : ℕ) where
 -- ---- six words
 
 module _ (s : List ℕ) where
-  not-six : (length (split space (drop 0 s)) ≡ 6 → ⊥) → SixWords s Words.Other
+  not-six : (length (split space (drop 0 s)) ≡ 6 → ⊥) → SixWords s None
   not-six h = other (ne_eqb (length (split space s)) 6 h)
 
   module _ (a : ℕ) (p : EndsAt space s 0 a) where
-    pub one_word : a ≡ length s → SixWords s Words.Other
+    pub one_word : a ≡ length s → SixWords s None
     one_word e = not-six (λ h. omega (arith, one_left space s 0 p e))
 
     module _ (i : (a ≡ length s → ⊥)) (b : ℕ) (q : EndsAt space s (a + 1) b) where
-      pub two-words : b ≡ length s → SixWords s Words.Other
+      pub two-words : b ≡ length s → SixWords s None
       two-words e = not-six (λ h. omega (arith, one_more space s 0 p i, one_left space s (a + 1) q e))
 
       module _ (j : (b ≡ length s → ⊥)) (c : ℕ) (r : EndsAt space s (b + 1) c) where
-        pub three-words : c ≡ length s → SixWords s Words.Other
+        pub three-words : c ≡ length s → SixWords s None
         three-words e =
             not-six (λ h. omega (arith, one_more space s 0 p i, one_more space s (a + 1) q j, one_left space s (b + 1) r e))
 
         module _ (k : (c ≡ length s → ⊥)) (d : ℕ) (t : EndsAt space s (c + 1) d) where
-          pub four-words : d ≡ length s → SixWords s Words.Other
+          pub four-words : d ≡ length s → SixWords s None
           four-words e =
               not-six
               (λ h.
@@ -151,20 +151,20 @@ module _ (s : List ℕ) where
                 omega
                 (arith, one_more space s 0 p i, one_more space s (a + 1) q j, one_more space s (b + 1) r k, one_more space s (c + 1) t l)
 
-            pub five-words : e ≡ length s → SixWords s Words.Other
+            pub five-words : e ≡ length s → SixWords s None
             five-words x = not-six (λ h. omega (arith, four-more, one_left space s (d + 1) u x))
 
             module _ (m : (e ≡ length s → ⊥)) (f : ℕ) (v : EndsAt space s (e + 1) f) where
-              pub many-words : (f ≡ length s → ⊥) → SixWords s Words.Other
+              pub many-words : (f ≡ length s → ⊥) → SixWords s None
               many-words x =
                   not-six
                   (λ h.
                   omega
                   (arith, four-more, one_more space s (d + 1) u m, one_more space s (e + 1) v x, split-some space (drop (f + 1) s)))
 
-              pub six-words : f ≡ length s → SixWords s (Words.Six a b c d e)
+              pub six-words : f ≡ length s → SixWords s (Some (record { a = a; b = b; c = c; d = d; e = e }))
               six-words x =
-                  six {a = a} {b = b} {c = c} {d = d} {e = e}
+                  six
                   (record {
                     ab = omega (arith, q.after);
                     bc = omega (arith, r.after);

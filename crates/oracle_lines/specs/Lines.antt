@@ -1,6 +1,5 @@
 -- What a line of the stored list says, from docs/BENCH.md, "The stored list". Text is a list of bytes, in ASCII. Assumes nothing.
-use Rattle.std.specs.Prelude.{cond, ◌&&◌, List, [], ◌∷◌, ◌++◌, ℕ, ◌+◌, ◌*◌, ltb, eqb, length, get_or}
-use Rattle.std.proofs.Math.Option.{Option, none, some}
+use Rattle.std.specs.Prelude.{cond, ◌&&◌, List, [], ◌∷◌, ◌++◌, ℕ, ◌+◌, ◌*◌, ltb, eqb, length, get_or, Option, None, Some}
 use Rattle.numerals.specs.Numbers.{digit, decimal, bits}
 
 -- ---- the signs that part a text
@@ -30,19 +29,19 @@ split sign (b ∷ s) = cond (eqb b sign) ([] ∷ split sign s) (on_first (b ∷ 
 -- ---- records in a word
 
 abbrev pub onto : ℕ → Option (List ℕ) → Option (List ℕ)
-onto b none = none
-onto b (some s) = some (b ∷ s)
+onto b None = None
+onto b (Some s) = Some (b ∷ s)
 
 -- bytes, each in two hexadecimal digits, the high one first
 unfoldable pub bytes : List ℕ → Option (List ℕ)
-bytes [] = some []
-bytes (h ∷ []) = none
-bytes (h ∷ l ∷ s) = cond (ltb (digit h) 16 && ltb (digit l) 16) (onto (digit h * 16 + digit l) (bytes s)) none
+bytes [] = Some []
+bytes (h ∷ []) = None
+bytes (h ∷ l ∷ s) = cond (ltb (digit h) 16 && ltb (digit l) 16) (onto (digit h * 16 + digit l) (bytes s)) None
 
 -- the bytes of records, `-` where there are none
 unfoldable pub records : List ℕ → Option (List ℕ)
-records [] = none
-records (b ∷ []) = cond (eqb b dash) (some []) none
+records [] = None
+records (b ∷ []) = cond (eqb b dash) (Some []) None
 records (h ∷ l ∷ s) = bytes (h ∷ l ∷ s)
 
 -- ---- a cost in a word
@@ -53,13 +52,13 @@ pub record Told : Type 0 where
   pub never : ℕ
 
 abbrev pub finite : Option ℕ → Option Told
-finite none = none
-finite (some b) = some (record { bits = b; never = 0 })
+finite None = None
+finite (Some b) = Some (record { bits = b; never = 0 })
 
 -- a cost by its bits, `-` where it is never
 unfoldable pub cost : List ℕ → Option Told
-cost [] = none
-cost (b ∷ []) = cond (eqb b dash) (some (record { bits = 0; never = 1 })) none
+cost [] = None
+cost (b ∷ []) = cond (eqb b dash) (Some (record { bits = 0; never = 1 })) None
 cost (h ∷ l ∷ s) = finite (bits (h ∷ l ∷ s))
 
 -- ---- a line
@@ -73,8 +72,8 @@ pub data Line : Type 0 where
 -- a line goes on with what a word says, and is broken where it says nothing
 infixl 20 ◌>>=◌
 abbrev pub ◌>>=◌ : {A : Type 0} → Option A → (A → Line) → Line
-none >>= f = broken
-some a >>= f = f a
+None >>= f = broken
+Some a >>= f = f a
 
 abbrev pub said : (context policy number output price nodes : List ℕ) → Line
 said context policy number output price nodes = do

@@ -9,7 +9,6 @@ mod showing;
 ghost use Rattle.std.specs.Prelude.{◌≡◌, ◌≤◌, length};
 ghost use Rattle.oracle_verdicts.specs.Verdicts.{Lent, tally_of};
 
-use files::Loaded;
 use oracle_lines::end_of;
 use oracle_verdicts::{Tally, counted, judge_line};
 use showing::{show, show_tally};
@@ -67,7 +66,7 @@ fn run(rt: &impl Print, text: &[u8])
 fn run_in<R: Env + Files + Input + Print + Eprint>(rt: &R, room: &mut [u8])
     requires { length room.old ≡ 524289 }
 {
-    let Loaded::Bytes(n) = files::load_word(
+    let Some(n) = files::load_word(
         rt,
         1,
         b"LIST",

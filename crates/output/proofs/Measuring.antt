@@ -1,6 +1,7 @@
 -- Measuring goes over the children of a node with what is still to come: the records and the bytes so far, with those of the children to come,
 -- are those of the node's tree. Assumes nothing.
-use mathlib.Core.Path.{◌≡◌, refl, sym, ◌∙◌, ap, subst}
+use Rattle.std.specs.Prelude.{None, Some}
+use mathlib.Core.Path.{◌≡◌, refl, sym, ◌∙◌, ap}
 use mathlib.Core.Bool.{Bool, true, false, cond}
 use mathlib.Core.List.{List}
 use Prim.Native.Nat.{ℕ, zero, suc, ◌+◌, ◌*◌, ◌-◌, ◌<◌, ◌≤◌}
@@ -21,7 +22,6 @@ use Rattle.output.specs.Records.{tree_at, held_at, count_at, front_length, arity
 use Rattle.output.specs.Answers.{Readable, Measured, fits, too_many}
 use Rattle.output.specs.Inside.{FrontLength, RecordLength}
 use Rattle.output.specs.declared.Extent.{Extent}
-use Rattle.output.specs.declared.Extent.TheVariants as Extent
 use Rattle.output.proofs.Lengths.{length_of, lengths_of, length-written, front_length_lem, front-few, arity-few, both-few, count-few, count-is}
 use Rattle.output.proofs.Lengths.{length-is}
 
@@ -124,27 +124,20 @@ no_more = (refl, refl)
 
 -- a measured tree, by the answer
 
-pub record Fitted (t : Fragment) (left records bytes : ℕ) : Type 0 where
-  pub count : count (node_of t) ≡ records
-  pub long : length_of (node_of t) ≡ bytes
-  pub few : records ≤ left
-  pub short : bytes ≤ 136 * records
+pub record Fitted (t : Fragment) (left : ℕ) (x : Extent) : Type 0 where
+  pub count : count (node_of t) ≡ x.records
+  pub long : length_of (node_of t) ≡ x.bytes
+  pub few : x.records ≤ left
+  pub short : x.bytes ≤ 136 * x.records
 
-fitted : {t : Fragment} {left records bytes : ℕ} → Measured t left (Extent.Fits records bytes) → Fitted t left records bytes
+pub fitted : {t : Fragment} {left : ℕ} {x : Extent} → Measured t left (Some x) → Fitted t left x
 fitted {t} (fits s b f h) = record { count = s; long = sym (length-written 0 (node_of t)) ∙ b; few = f; short = h }
 
-pub fits_told : {t : Fragment} {left records bytes : ℕ} (r : Extent) → Measured t left r → r ≡ Extent.Fits records bytes
-    → Fitted t left records bytes
-fits_told {t} {left} r h e = fitted (subst (λ (x : Extent). Measured t left x) e h)
-
-exceeds : {t : Fragment} {left : ℕ} → Measured t left Extent.TooMany → left < size t
+pub exceeds : {t : Fragment} {left : ℕ} → Measured t left None → left < size t
 exceeds (too_many h) = h
 
-pub many-told : {t : Fragment} {left : ℕ} (r : Extent) → Measured t left r → r ≡ Extent.TooMany → left < size t
-many-told {t} {left} r h e = exceeds (subst (λ (x : Extent). Measured t left x) e h)
-
 module _ {pol m : List ℕ} {e left : ℕ} (readable : Readable pol m e) where
-  pub measure-none : left ≡ 0 → Measured (tree_at pol m e) left Extent.TooMany
+  pub measure-none : left ≡ 0 → Measured (tree_at pol m e) left None
   measure-none z = too_many (omega (arith, count-is readable))
 
   pub measure-starts : (n bytes : ℕ) → n ≡ arity_at pol m e → RecordLength pol m e bytes → (left ≡ 0 → ⊥) → MeasureInv pol m e left n 1 bytes 0
@@ -165,16 +158,16 @@ module _ {pol m : List ℕ} {e left : ℕ} (readable : Readable pol m e) where
 
   module _ {n records bytes j : ℕ} (inv : MeasureInv pol m e left n records bytes j) where
     pub measure-stops : (c : ℕ) → j < n → c ≡ child_at m e j → left - records < size (tree_at pol m c)
-        → Measured (tree_at pol m e) left Extent.TooMany
+        → Measured (tree_at pol m e) left None
     measure-stops c l is h =
         let xs : Nodes = child_nodes pol m e (j + 1) (n - (j + 1)) in
         let next = ap counts (next-child pol m e j n l) ∙ count-cons (node_of (tree_at pol m (child_at m e j))) xs in
         let same : count (node_of (tree_at pol m c)) ≡ count (node_of (tree_at pol m (child_at m e j))) = ap (λ (i : ℕ). count (node_of (tree_at pol m i))) is in
         too_many (omega (arith, next, same, inv.counted, inv.few))
 
-    pub measure-goes-on : (c more longer : ℕ) → j < n → c ≡ child_at m e j → Fitted (tree_at pol m c) (left - records) more longer
-        → MeasureInv pol m e left n (records + more) (bytes + longer) (j + 1)
-    measure-goes-on c more longer l is f =
+    pub measure-goes-on : (c : ℕ) (more : Extent) → j < n → c ≡ child_at m e j → Fitted (tree_at pol m c) (left - records) more
+        → MeasureInv pol m e left n (records + more.records) (bytes + more.bytes) (j + 1)
+    measure-goes-on c more l is f =
         let xs : Nodes = child_nodes pol m e (j + 1) (n - (j + 1)) in
         let x : Node = node_of (tree_at pol m (child_at m e j)) in
         let next_count = ap counts (next-child pol m e j n l) ∙ count-cons x xs in
@@ -190,12 +183,12 @@ module _ {pol m : List ℕ} {e left : ℕ} (readable : Readable pol m e) where
           short = omega (arith, f.short, inv.short);
         }
 
-    pub measure-ends : n ≤ j → Measured (tree_at pol m e) left (Extent.Fits records bytes)
+    pub measure-ends : n ≤ j → Measured (tree_at pol m e) left (Some (record { records = records; bytes = bytes }))
     measure-ends l =
         let none = no-child pol m e j n l in
         let c = ap counts none ∙ no_more.0 in
         let b = ap lengths_of none ∙ no_more.1 in
-        fits {records = records} {bytes = bytes}
+        fits {x = record { records = records; bytes = bytes }}
         (omega (arith, c, inv.counted))
         (length-written 0 (node_of (tree_at pol m e)) ∙ omega (arith, b, inv.long))
         inv.few

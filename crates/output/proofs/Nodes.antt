@@ -1,5 +1,6 @@
 -- Writing goes over the children of a node with what is still to come: the bytes placed so far, with those of the children to come, are those
 -- of all children, and the numbers of their records stand in a row. Assumes nothing.
+use Rattle.std.specs.Prelude.{None, Some}
 use mathlib.Core.Path.{◌≡◌, refl, sym, ◌∙◌, ap, subst}
 use mathlib.Core.List.{List, [], ◌∷◌, ◌++◌, append-nil, append_assoc}
 use mathlib.Core.Logic.{inl, inr}
@@ -21,8 +22,6 @@ use Rattle.output.specs.Records.{tree_at, kind_at, front_at, arity_at, child_at,
 use Rattle.output.specs.Answers.{Readable, Wrote, wrote, too_small}
 use Rattle.output.specs.Inside.{SomeK, AllSomeK, Placed, Room, Ended}
 use Rattle.output.specs.declared.End.{End}
-use Rattle.output.specs.declared.Written.{Written}
-use Rattle.output.specs.declared.Written.TheVariants as Written
 use Rattle.output.proofs.Shapes.{shape}
 use Rattle.output.proofs.Lengths.{length_of, lengths_of, length-written, lengths-written, count-is, length-is}
 use Rattle.output.proofs.Placing.{then-sets}
@@ -302,7 +301,7 @@ module _ {pol m : List ℕ} {e : ℕ} (readable : Readable pol m e) (w : WellFor
       }
 
   pub whole-written : (records bytes : ℕ) (out : List ℕ) (r : End) → size (tree_at pol m e) ≡ records → length_of (node_of (tree_at pol m e)) ≡ bytes
-      → records ≤ max_records → bytes ≤ length out₀ → Ended (node_of (tree_at pol m e)) 0 0 out₀ out r → Wrote (tree_at pol m e) out₀ out (Written.Bytes bytes)
+      → records ≤ max_records → bytes ≤ length out₀ → Ended (node_of (tree_at pol m e)) 0 0 out₀ out r → Wrote (tree_at pol m e) out₀ out (Some bytes)
   whole-written records bytes out r s b few l ended =
       let t : List ℕ = bytes_of_tree (tree_at pol m e) in
       let long : length t ≡ bytes = length-written 0 (node_of (tree_at pol m e)) ∙ b in
@@ -311,8 +310,8 @@ module _ {pol m : List ℕ} {e : ℕ} (readable : Readable pol m e) (w : WellFor
       (ended.is ∙ sets-eq t out₀ 0 (omega arith) ∙ ap (λ (i : ℕ). t ++ drop i out₀) e₀)
 
 pub whole_long : (t : Fragment) (out₀ : List ℕ) (bytes : ℕ) → length_of (node_of t) ≡ bytes → length out₀ < bytes
-    → Wrote t out₀ out₀ Written.TooSmall
+    → Wrote t out₀ out₀ None
 whole_long t out₀ bytes b l = too_small (inr (omega (arith, length-written 0 (node_of t)))) refl
 
-pub whole-many : (t : Fragment) (out₀ : List ℕ) → max_records < size t → Wrote t out₀ out₀ Written.TooSmall
+pub whole-many : (t : Fragment) (out₀ : List ℕ) → max_records < size t → Wrote t out₀ out₀ None
 whole-many t out₀ l = too_small (inl l) refl

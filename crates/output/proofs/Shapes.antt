@@ -3,7 +3,7 @@
 use mathlib.Core.Path.{◌≡◌, refl, sym, ◌∙◌, ap}
 use mathlib.Core.Bool.{Bool, true, false, cond, ◌&&◌}
 use mathlib.Core.List.{List, [], ◌∷◌, ◌++◌, map}
-use mathlib.Core.Option.{Option, none, some}
+use Rattle.std.specs.Prelude.{Option, None, Some}
 use mathlib.Core.Logic.{◌⊎◌, inl, inr, ⊎_elim}
 use Prim.Native.Nat.{ℕ, zero, suc, ◌+◌, ◌<◌, ◌≤◌}
 use native.Mathlib.Omega.{arith}
@@ -119,15 +119,15 @@ module _ (p : Parts) where
   all_kinds [] = true
   all_kinds (line ∷ lines) = between 32 58 line.kind && all_kinds lines
 
-  found_none : (kind : ℕ) (lines : List (Line (Parts → Fragment))) → all_kinds lines ≡ true → between 32 58 kind ≡ false → find kind lines ≡ none
+  found_none : (kind : ℕ) (lines : List (Line (Parts → Fragment))) → all_kinds lines ≡ true → between 32 58 kind ≡ false → find kind lines ≡ None
   unfolding find all_kinds
   found_none kind [] all out = refl
   found_none kind (line ∷ lines) all out =
       let both = both_true (between 32 58 line.kind) (all_kinds lines) all in
       by-test (eqb kind line.kind) refl both.0 (found_none kind lines both.1 out)
     where
-      by-test : (b : Bool) → eqb kind line.kind ≡ b → between 32 58 line.kind ≡ true → find kind lines ≡ none
-          → cond b (some line.this) (find kind lines) ≡ none
+      by-test : (b : Bool) → eqb kind line.kind ≡ b → between 32 58 line.kind ≡ true → find kind lines ≡ None
+          → cond b (Some line.this) (find kind lines) ≡ None
       by-test true e is others =
           let same : between 32 58 kind ≡ true = ap (between 32 58) (eqb-true kind line.kind e) ∙ is in
           absurd (true-false (sym same ∙ out))

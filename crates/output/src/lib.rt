@@ -29,18 +29,11 @@ const THRESH: u16 = 56;
 // The most records that are written.
 const MAX_RECORDS: usize = 4096;
 
-// How large a tree is: its records and their bytes, or that it has more records than it may.
+// How many records a tree has, and how many bytes they are.
 #[derive(Clone, Copy)]
-pub enum Extent {
-    Fits(usize, usize),
-    TooMany,
-}
-
-// What writing a tree answers: how many bytes it wrote, or that they do not fit or have too many records.
-#[derive(Clone, Copy)]
-pub enum Written {
-    Bytes(usize),
-    TooSmall,
+pub struct Extent {
+    pub records: usize,
+    pub bytes: usize,
 }
 
 // The place after what is written, and how many records stand before it.
@@ -54,6 +47,7 @@ struct End {
 fn fragment_kind(kind: u16) -> u16
     ensures { result ≡ fragment_kind kind }
 {
+    // A kind stays a number: a record or a node holds one, and the contract answers on every number.
     match kind {
         32..=33 => kind,
         34..=35 => kind + 50,
@@ -78,8 +72,7 @@ fn kind_of(work: &[u64], e: u16) -> u16
     requires { length work.now ≡ work_words }
     ensures { result ≡ kind_at work.now e }
 {
-    let x = node(work, e);
-    fragment_kind(x.kind)
+    fragment_kind(node(work, e).kind)
 }
 
 // How many bytes of a record of a kind stand before its children, n being the number of children or keys.
@@ -87,6 +80,7 @@ fn front_length(kind: u16, n: usize) -> usize
     requires { n ≤ 16 }
     ensures { result ≡ front_length kind n }
 {
+    // A kind stays a number: a record or a node holds one, and the contract answers on every number.
     match kind {
         56 => 4,
         34..=41 => number_width(kind),
@@ -154,31 +148,23 @@ fn length_of(pol: &[u64], work: &[u64], e: u16) -> usize
 }
 
 // How many records the tree of node e has, and how many bytes, if it has at most `left` records. It visits at most one node more than that.
-pub fn measure(pol: &[u64], work: &[u64], e: u16, left: usize) -> Extent
+pub fn measure(pol: &[u64], work: &[u64], e: u16, left: usize) -> Option<Extent>
     requires { Readable pol.now work.now e × (left ≤ max_records) }
     ensures { Measured (tree_at pol.now work.now e) left result }
 {
     if left == 0 {
-        return Extent::TooMany;
+        return None;
     }
     let n = arity_of(pol, work, e);
     let mut records = 1;
     let mut bytes = length_of(pol, work, e);
-    let mut j = 0;
-    while j < n {
+    for j in 0..n {
         let c = child_of(work, e, j);
-        match measure(pol, work, c, left - records) {
-            Extent::TooMany => {
-                return Extent::TooMany;
-            }
-            Extent::Fits(more, longer) => {
-                records += more;
-                bytes += longer;
-            }
-        }
-        j += 1;
+        let more = measure(pol, work, c, left - records)?;
+        records += more.records;
+        bytes += more.bytes;
     }
-    Extent::Fits(records, bytes)
+    Some(Extent { records, bytes })
 }
 
 // Writes a u16 at a place.
@@ -231,12 +217,10 @@ fn put_keys(pol: &[u64], r: usize, n: usize, out: &mut [u8], at: usize)
     requires { Keyed pol.now r n × (at + 8 * n ≤ length out.old) }
     ensures { out.new ≡ sets out.old at (in_row 8 (keys_of (policy_at pol.now r))) }
 {
-    let mut j = 0;
-    while j < n {
+    for j in 0..n {
         let c = child(pol, r, j);
         let head = head_of(pol, c);
         put_8(out, at + 8 * j, head.number);
-        j += 1;
     }
 }
 
@@ -249,11 +233,12 @@ fn put_front(pol: &[u64], work: &[u64], e: u16, out: &mut [u8], at: usize)
     let r = x.first as usize;
     let head = head_of(pol, r);
     let kind = x.kind;
+    // A kind stays a number: a record or a node holds one, and the contract answers on every number.
     match kind {
         34..=41 => {
             put_number(out, at, kind, head.number);
         }
-        56..=56 => {
+        56 => {
             put_k_and_n(out, at, head.k, head.count);
         }
         57..=58 => {
@@ -265,15 +250,13 @@ fn put_front(pol: &[u64], work: &[u64], e: u16, out: &mut [u8], at: usize)
     }
 }
 
-// Writes n of the numbers of a row, from a place on.
-fn put_children(out: &mut [u8], at: usize, row: [u16; 16], n: usize)
-    requires { (n ≤ 16) × (at + 2 * n ≤ length out.old) }
-    ensures { out.new ≡ sets out.old at (in_row 2 (take n row)) }
+// Writes the numbers of children, from a place on.
+fn put_children(out: &mut [u8], at: usize, children: &[u16])
+    requires { (length children.now ≤ 16) × (at + 2 * length children.now ≤ length out.old) }
+    ensures { out.new ≡ sets out.old at (in_row 2 children.now) }
 {
-    let mut j = 0;
-    while j < n {
-        put_2(out, at + 2 * j, row[j]);
-        j += 1;
+    for (j, c) in children.iter().enumerate() {
+        put_2(out, at + 2 * j, *c);
     }
 }
 
@@ -289,7 +272,7 @@ fn put_record(pol: &[u64], work: &[u64], e: u16, out: &mut [u8], at: usize, row:
     put_2(out, at, length as u16);
     put_2(out, at + 2, kind_of(work, e));
     put_front(pol, work, e, out, at + 4);
-    put_children(out, at + 4 + front, row, n);
+    put_children(out, at + 4 + front, &row[..n]);
     end
 }
 
@@ -302,14 +285,12 @@ fn write_node(pol: &[u64], work: &[u64], e: u16, out: &mut [u8], at: usize, n: u
     let mut row = [0; 16];
     let mut to = at;
     let mut records = n;
-    let mut j = 0;
-    while j < arity {
+    for j in 0..arity {
         let c = child_of(work, e, j);
         let end = write_node(pol, work, c, out, to, records);
         to = end.at;
         records = end.records;
         row[j] = (records - 1) as u16;
-        j += 1;
     }
     let last = put_record(pol, work, e, out, to, row);
     End {
@@ -319,18 +300,14 @@ fn write_node(pol: &[u64], work: &[u64], e: u16, out: &mut [u8], at: usize, n: u
 }
 
 // Writes the records of node e's tree, if there are at most 4,096 of them and they fit; otherwise it writes nothing.
-pub fn write(pol: &[u64], work: &[u64], e: u16, out: &mut [u8]) -> Written
+pub fn write(pol: &[u64], work: &[u64], e: u16, out: &mut [u8]) -> Option<usize>
     requires { Readable pol.now work.now e × WellFormed (tree_at pol.now work.now e) }
     ensures { Wrote (tree_at pol.now work.now e) out.old out.new result }
 {
-    match measure(pol, work, e, MAX_RECORDS) {
-        Extent::TooMany => Written::TooSmall,
-        Extent::Fits(_, bytes) => {
-            if out.len() < bytes {
-                return Written::TooSmall;
-            }
-            write_node(pol, work, e, out, 0, 0);
-            Written::Bytes(bytes)
-        }
+    let bytes = measure(pol, work, e, MAX_RECORDS)?.bytes;
+    if out.len() < bytes {
+        return None;
     }
+    write_node(pol, work, e, out, 0, 0);
+    Some(bytes)
 }

@@ -1,5 +1,5 @@
 -- The entries at a pairing's places, and the candidate that is made of those at a number's digits. Assumes nothing.
-use mathlib.Core.Path.{◌≡◌, refl, sym, ap, ◌∙◌, subst}
+use mathlib.Core.Path.{◌≡◌, sym, ap, ◌∙◌, subst}
 use mathlib.Core.Bool.{Bool, true, false, cond}
 use mathlib.Core.List.{List, [], ◌∷◌}
 use Prim.Native.Nat.{ℕ, zero, suc, ◌*◌, ◌/◌, ◌%◌, ◌<◌, ◌≤◌}
@@ -14,7 +14,8 @@ use Rattle.writing.specs.WellFormed.{AllBelow}
 use Rattle.definition.specs.Candidates.{passed_over, pair_no}
 use Rattle.definition.specs.Candidates as definition
 use Rattle.candidates.specs.declared.Candidate as node
-use Rattle.candidates.specs.declared.Made as code
+use Rattle.candidates.specs.declared.NotMade.{NotMade}
+use Rattle.std.specs.Prelude.{Result}
 use Rattle.candidates.specs.Pairs.{pair_of, and_or}
 use Rattle.memory.specs.Layout.{node_count}
 use Rattle.nodes.specs.Words.{node_at}
@@ -181,7 +182,7 @@ module _ {m slots : List ℕ} {a : Pairing} {i : ℕ} (h : Paired m a slots) whe
       (pairs-numbered (seen pol m) (entries_at m slots a.first) (entries_at m slots a.second) i passed_over (pair_no a.kind a.lw a.rw)
       (pair-range m slots a i k below)))
 
-  pub pair_made : {l r n : ℕ} {x y : node.Candidate} {z : code.Made} → eqb a.kind 55 ≡ false → i < count_of m a slots
+  pub pair_made : {l r n : ℕ} {x y : node.Candidate} {z : Result node.Candidate NotMade} → eqb a.kind 55 ≡ false → i < count_of m a slots
       → n ≡ length_at m slots a.second
       → (l ≡ get_or (entries_at m slots a.first) (i / n) 0) × (l < node_count m)
       → (r ≡ get_or (entries_at m slots a.second) (i % n) 0) × (r < node_count m)
@@ -209,7 +210,7 @@ module _ {m slots : List ℕ} {a : Pairing} {i : ℕ} (h : Paired m a slots) whe
       (triples-numbered (seen pol m) (entries_at m slots a.first) (entries_at m slots a.second) i passed_over (definition.and_or a.lw a.rw)
       (entries_at m slots a.third) (triple-range m slots a i k below)))
 
-  pub triple-made : {x y z nb nc : ℕ} {u v w : node.Candidate} {r : code.Made} → eqb a.kind 55 ≡ true → i < count_of m a slots
+  pub triple-made : {x y z nb nc : ℕ} {u v w : node.Candidate} {r : Result node.Candidate NotMade} → eqb a.kind 55 ≡ true → i < count_of m a slots
       → nb ≡ length_at m slots a.second → nc ≡ length_at m slots a.third
       → (x ≡ get_or (entries_at m slots a.first) (i / nc / nb) 0) × (x < node_count m)
       → (y ≡ get_or (entries_at m slots a.second) (i / nc % nb) 0) × (y < node_count m)

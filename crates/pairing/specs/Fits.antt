@@ -1,13 +1,7 @@
 -- Which pairs are well-typed, by the types of their sides alone (candidates, specs/Pairs.antt). Assumes nothing.
-use Rattle.std.specs.Prelude.{Bool, true, false, cond, List, [], ◌∷◌, ℕ, eqb}
+use Rattle.std.specs.Prelude.{Bool, false, cond, List, [], ◌∷◌, ℕ, eqb, is_ok}
 use Rattle.types.specs.declared.«Type».{«Type»}
-use Rattle.types.specs.declared.TypeResult.{TypeResult}
-use Rattle.types.specs.declared.TypeResult.TheVariants.{Ok, IllTyped}
 use Rattle.candidates.specs.Pairs.{Row}
-
-abbrev pub is_ok : TypeResult → Bool
-is_ok (Ok t) = true
-is_ok IllTyped = false
 
 -- the pair of a kind; of another kind there is none
 unfoldable pub fits_from : List Row → ℕ → «Type» → «Type» → Bool

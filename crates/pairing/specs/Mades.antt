@@ -1,13 +1,12 @@
 -- The candidates that one pairing makes, in the order in which the loops of compile_binary and compile_tern in policy/compiler.rs make them. A
 -- pairing (stages, specs/Stages.antt) names its tables by places, and each place has a slot of work memory. Assumes nothing.
-use Rattle.std.specs.Prelude.{cond, List, [], ◌∷◌, ◌++◌, map, ◌≡◌, ℕ, ◌*◌, ◌<◌, ◌≤◌, eqb, length, get_or}
+use Rattle.std.specs.Prelude.{cond, List, [], ◌∷◌, ◌++◌, map, ◌≡◌, ℕ, ◌*◌, ◌<◌, ◌≤◌, eqb, length, get_or, Result, Ok}
 use Rattle.writing.specs.WellFormed.{AllBelow}
 use Rattle.definition.specs.Candidates.{Candidate, Made, passed_over, and_or, pair_no}
 use Rattle.definition.specs.Tables.{Table}
 use Rattle.definition.specs.Refusals.{M, ◌>>=◌, pure}
 use Rattle.candidates.specs.declared.Candidate as node
-use Rattle.candidates.specs.declared.Made as code
-use Rattle.candidates.specs.declared.Made.TheVariants as Made
+use Rattle.candidates.specs.declared.NotMade.{NotMade}
 use Rattle.memory.specs.Layout.{node_count}
 use Rattle.nodes.specs.Views.{seen_all}
 use Rattle.nodes.specs.Answers.{Holds}
@@ -81,6 +80,6 @@ pub record Counted (m : List ℕ) (a : Pairing) (slots : List ℕ) (n : ℕ) : T
   pub mades : (pol : List ℕ) → n ≡ length (mades_of pol m a slots)
 
 -- the i-th of them, which may be offered to a table
-pub record MadeAt (m : List ℕ) (a : Pairing) (slots : List ℕ) (i : ℕ) (r : code.Made) : Type 0 where
+pub record MadeAt (m : List ℕ) (a : Pairing) (slots : List ℕ) (i : ℕ) (r : Result node.Candidate NotMade) : Type 0 where
   pub sees : (pol : List ℕ) → made_seen pol m r ≡ get_or (mades_of pol m a slots) i passed_over
-  pub fresh : (y : node.Candidate) → r ≡ Made.Candidate y → Offerable m y
+  pub fresh : (y : node.Candidate) → r ≡ Ok y → Offerable m y

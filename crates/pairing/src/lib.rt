@@ -10,14 +10,14 @@ ghost use Rattle.candidates.specs.Pairs.{all_pairs, pair_of, and_or};
 ghost use Rattle.memory.specs.Layout.{work_words, node_count};
 ghost use Rattle.nodes.specs.Words.{node_at};
 ghost use Rattle.cache.specs.Slots.{Kept};
-ghost use Rattle.pairing.specs.Fits.{is_ok, fits_from};
+ghost use Rattle.pairing.specs.Fits.{fits_from};
 ghost use Rattle.pairing.specs.Mades.{entries_at, length_at, count_of, PlaceHolds, Paired, Counted, MadeAt};
 
 use cache::{entry, length_of};
-use candidates::{Candidate, Made};
+use candidates::{Candidate, NotMade};
 use nodes::{node, type_at};
 use stages::Pairing;
-use types::{Type, TypeResult};
+use types::Type;
 
 // The kind of a triple.
 const AND_OR: u16 = 55;
@@ -60,34 +60,24 @@ pub fn count(work: &[u64], a: Pairing, slots: [u16; 8]) -> usize
     pairs
 }
 
-// Whether a type rule gave a type.
-fn is_ok(r: TypeResult) -> bool
-    ensures { result ≡ is_ok r }
-{
-    match r {
-        TypeResult::Ok(_) => true,
-        TypeResult::IllTyped => false,
-    }
-}
-
 // Whether the pair of a kind, of entries of these types, is well-typed.
 fn fits(kind: u16, l: Type, r: Type) -> bool
     ensures { result ≡ fits_from all_pairs kind l r }
 {
+    // A kind stays a number: a record or a node holds one, and the contract answers on every number.
     match kind {
-        0..=48 => false,
-        49 => is_ok(Type::and_b(l, r)),
-        50 => is_ok(Type::and_v(l, r)),
-        51 => is_ok(Type::or_b(l, r)),
-        52 => is_ok(Type::or_d(l, r)),
-        53 => is_ok(Type::or_c(l, r)),
-        54 => is_ok(Type::or_i(l, r)),
-        55..=65535 => false,
+        49 => Type::and_b(l, r).is_ok(),
+        50 => Type::and_v(l, r).is_ok(),
+        51 => Type::or_b(l, r).is_ok(),
+        52 => Type::or_d(l, r).is_ok(),
+        53 => Type::or_c(l, r).is_ok(),
+        54 => Type::or_i(l, r).is_ok(),
+        _ => false,
     }
 }
 
 // The pair of a kind of nodes l and r. Most are ill-typed, which their types tell, so that no more of the nodes is read.
-fn pair_of(work: &[u64], kind: u16, l: u16, r: u16, lw: f64, rw: f64) -> Made
+fn pair_of(work: &[u64], kind: u16, l: u16, r: u16, lw: f64, rw: f64) -> Result<Candidate, NotMade>
     requires { length work.now ≡ work_words }
     ensures { result ≡ pair_of kind (node_at work.now l) l (node_at work.now r) r lw rw }
 {
@@ -96,25 +86,25 @@ fn pair_of(work: &[u64], kind: u16, l: u16, r: u16, lw: f64, rw: f64) -> Made
         let y = node(work, r);
         return Candidate::pair(kind, x, l, y, r, lw, rw);
     }
-    Made::PassedOver
+    Err(NotMade::PassedOver)
 }
 
 // The triple of nodes l, r and e, in the same way.
-fn triple_of(work: &[u64], l: u16, r: u16, e: u16, lw: f64, rw: f64) -> Made
+fn triple_of(work: &[u64], l: u16, r: u16, e: u16, lw: f64, rw: f64) -> Result<Candidate, NotMade>
     requires { length work.now ≡ work_words }
     ensures { result ≡ and_or (node_at work.now l) l (node_at work.now r) r (node_at work.now e) e lw rw }
 {
-    if is_ok(Type::and_or(type_at(work, l), type_at(work, r), type_at(work, e))) {
+    if Type::and_or(type_at(work, l), type_at(work, r), type_at(work, e)).is_ok() {
         let x = node(work, l);
         let y = node(work, r);
         let z = node(work, e);
         return Candidate::and_or(x, l, y, r, z, e, lw, rw);
     }
-    Made::PassedOver
+    Err(NotMade::PassedOver)
 }
 
 // The i-th pair.
-fn pair_at(work: &[u64], a: Pairing, slots: [u16; 8], i: usize) -> Made
+fn pair_at(work: &[u64], a: Pairing, slots: [u16; 8], i: usize) -> Result<Candidate, NotMade>
     requires { Paired work.now a slots × ((eqb a.kind 55 ≡ false) × (i < count_of work.now a slots)) }
     ensures { MadeAt work.now a slots i result }
 {
@@ -125,7 +115,7 @@ fn pair_at(work: &[u64], a: Pairing, slots: [u16; 8], i: usize) -> Made
 }
 
 // The i-th triple.
-fn triple_at(work: &[u64], a: Pairing, slots: [u16; 8], i: usize) -> Made
+fn triple_at(work: &[u64], a: Pairing, slots: [u16; 8], i: usize) -> Result<Candidate, NotMade>
     requires { Paired work.now a slots × ((eqb a.kind 55 ≡ true) × (i < count_of work.now a slots)) }
     ensures { MadeAt work.now a slots i result }
 {
@@ -138,7 +128,7 @@ fn triple_at(work: &[u64], a: Pairing, slots: [u16; 8], i: usize) -> Made
 }
 
 // The i-th candidate that the pairing makes.
-pub fn made(work: &[u64], a: Pairing, slots: [u16; 8], i: usize) -> Made
+pub fn made(work: &[u64], a: Pairing, slots: [u16; 8], i: usize) -> Result<Candidate, NotMade>
     requires { Paired work.now a slots × (i < count_of work.now a slots) }
     ensures { MadeAt work.now a slots i result }
 {

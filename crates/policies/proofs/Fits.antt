@@ -1,7 +1,7 @@
 -- What a policy's payload has by the kind of its record. Assumes nothing.
 use mathlib.Core.Path.{◌≡◌, refl, sym, ◌∙◌, ap}
 use mathlib.Core.List.{List}
-use mathlib.Core.Option.{some}
+use Rattle.std.specs.Prelude.{Some}
 use Prim.Native.Nat.{ℕ, ◌≤◌}
 use native.Mathlib.Omega.{arith}
 use borrow.Author.Tests.{leb-true, ne_eqb}
@@ -43,9 +43,9 @@ nothing-fit kind h =
       some_of = λ e. absurd (omega arith);
     }
 
-module _ (s : List ℕ) (p : Payload) (e : policy_payload s ≡ some p) where
-  shaped : (low high : ℕ) {shape : Shape} → ((kind : ℕ) → low ≤ kind → kind ≤ high → shape_of kind ≡ some shape)
-      → low ≤ kind_of s → kind_of s ≤ high → payload_of shape s ≡ some p
+module _ (s : List ℕ) (p : Payload) (e : policy_payload s ≡ Some p) where
+  shaped : (low high : ℕ) {shape : Shape} → ((kind : ℕ) → low ≤ kind → kind ≤ high → shape_of kind ≡ Some shape)
+      → low ≤ kind_of s → kind_of s ≤ high → payload_of shape s ≡ Some p
   shaped low high {shape} shapes l u = sym (of-policy s (policy-record s e).0 (shapes (kind_of s) l u)) ∙ e
 
   none-kind : (kind : ℕ) → kind_of s ≡ kind → 1 ≤ kind → kind ≤ 2 → Fit kind p
@@ -74,7 +74,7 @@ module _ (s : List ℕ) (p : Payload) (e : policy_payload s ≡ some p) where
   thresh-kind k =
       let payload = shaped 12 12 (shapes-in 12 12 refl) (omega arith) (omega arith) in
       let is = is-threshold s payload in
-      let bounds = threshold-bounds s (payload ∙ ap some is) in
+      let bounds = threshold-bounds s (payload ∙ ap Some is) in
       rw is
       (record {
         count = omega arith;

@@ -1,9 +1,10 @@
 -- No policy that is read weighs more than `max_weight`: `weight-bounded`. So what `weight` asks for holds of the root that `read_policy`
 -- answers, which is what callers cite: `weighable`. Assumes nothing.
+use Rattle.refusals.specs.declared.Refusal.{Refusal}
 use mathlib.Core.Path.{◌≡◌, refl, sym, ◌∙◌, ap}
 use mathlib.Core.Bool.{Bool, true, false, cond}
 use mathlib.Core.List.{List, [], ◌∷◌, ◌++◌}
-use mathlib.Core.Option.{Option, none, some}
+use Rattle.std.specs.Prelude.{Option, None, Some, Result, Ok}
 use Prim.Native.Nat.{ℕ, zero, suc, ◌+◌, ◌*◌, ◌<◌, ◌≤◌}
 use native.Mathlib.Omega.{arith}
 use borrow.Author.Tests.{eqb-true, eqb-false}
@@ -20,94 +21,93 @@ use Rattle.policies.specs.Reading.{weighs_nothing, written, Next, read_whole, re
 use Rattle.policies.specs.Reading.{max_records, max_weight}
 use Rattle.policies.specs.Array.{policy_at, Good}
 use Rattle.policies.specs.Answers.{PolicyRead, reads, bad-array, PolicyGood}
-use Rattle.policies.specs.declared.ReadPolicy.{ReadPolicy}
 use Rattle.policies.proofs.Forms.{children-made}
 use Rattle.policies.proofs.Fits.{fit}
 use Rattle.policies.proofs.Sizes.{weights_in, weight-between}
 
-some_same : {A : Type 0} {a b : A} → some a ≡ some b → a ≡ b
+some_same : {A : Type 0} {a b : A} → Some a ≡ Some b → a ≡ b
 some_same e = cc
 
 -- ---- what the slots hold: 2 and its weight for each policy that is there
 
 abbrev load : Option Policy → ℕ
-load (some p) = 2 + weight p
-load none = 0
+load (Some p) = 2 + weight p
+load None = 0
 
 unfoldable held : Slots → ℕ
 held [] = 0
 held (s ∷ slots) = load s + held slots
 
 -- a policy is added
-held-added : (slots : Slots) (p : Policy) → held (slots ++ (some p ∷ [])) ≡ held slots + (2 + weight p)
+held-added : (slots : Slots) (p : Policy) → held (slots ++ (Some p ∷ [])) ≡ held slots + (2 + weight p)
 unfolding held
 held-added [] p = omega arith
 held-added (s ∷ slots) p =
-    let h : held (slots ++ (some p ∷ [])) ≡ held slots + (2 + weight p) = held-added slots p in
+    let h : held (slots ++ (Some p ∷ [])) ≡ held slots + (2 + weight p) = held-added slots p in
     omega arith
 
 -- a policy is taken out
-held-taken : (slots : Slots) (j : ℕ) {p : Policy} → slot slots j ≡ some p → held slots ≡ (2 + weight p) + held (set slots j none)
+held-taken : (slots : Slots) (j : ℕ) {p : Policy} → slot slots j ≡ Some p → held slots ≡ (2 + weight p) + held (set slots j None)
 unfolding held
 held-taken [] j e = cc
 held-taken (s ∷ slots) zero {p} e = rw e (omega arith)
 held-taken (s ∷ slots) (suc j) {p} e =
-    let h : held slots ≡ (2 + weight p) + held (set slots j none) = held-taken slots j e in
+    let h : held slots ≡ (2 + weight p) + held (set slots j None) = held-taken slots j e in
     omega arith
 
 -- the root is one of them
-held-root : (slots : Slots) {p : Policy} → root_of slots ≡ some p → 2 + weight p ≤ held slots
+held-root : (slots : Slots) {p : Policy} → root_of slots ≡ Some p → 2 + weight p ≤ held slots
 unfolding root_of held
 held-root [] e = absurd (let z : ◌≡◌ {A = ℕ} 0 1 = cc in omega arith)
 held-root (s ∷ []) e = rw e (omega arith)
-held-root (none ∷ s ∷ slots) e = let h = held-root (s ∷ slots) e in omega arith
-held-root (some q ∷ s ∷ slots) e = absurd (let z : ◌≡◌ {A = ℕ} 0 1 = cc in omega arith)
+held-root (None ∷ s ∷ slots) e = let h = held-root (s ∷ slots) e in omega arith
+held-root (Some q ∷ s ∷ slots) e = absurd (let z : ◌≡◌ {A = ℕ} 0 1 = cc in omega arith)
 
 -- ---- the children of a record are taken out
 
 -- what some slots have is as it was in the slots before
 abbrev AsIn : (before slots : Slots) → Type 0
-AsIn before slots = (x : ℕ) (p : Policy) → slot slots x ≡ some p → slot before x ≡ some p
+AsIn before slots = (x : ℕ) (p : Policy) → slot slots x ≡ Some p → slot before x ≡ Some p
 
-as-in-less : (before slots : Slots) (j : ℕ) → AsIn before slots → AsIn before (set slots j none)
+as-in-less : (before slots : Slots) (j : ℕ) → AsIn before slots → AsIn before (set slots j None)
 as-in-less before slots j still x p e = by-test (eqb x j) refl
   where
-    gone : (slots : Slots) (j : ℕ) → slot (set slots j none) j ≡ none
+    gone : (slots : Slots) (j : ℕ) → slot (set slots j None) j ≡ None
     gone [] j = refl
     gone (s ∷ slots) zero = refl
     gone (s ∷ slots) (suc j) = gone slots j
 
-    by-test : (t : Bool) → eqb x j ≡ t → slot before x ≡ some p
+    by-test : (t : Bool) → eqb x j ≡ t → slot before x ≡ Some p
     by-test true q =
         let same : x ≡ j = eqb-true x j q in
-        let no : slot (set slots j none) j ≡ some p = rw same at e in
-        absurd (let z : ◌≡◌ {A = ℕ} 0 1 = let none_is : none ≡ some p = sym (gone slots j) ∙ no in cc in omega arith)
-    by-test false q = still x p (sym (get_or-set_other slots j x none none (eqb-false x j q)) ∙ e)
+        let no : slot (set slots j None) j ≡ Some p = rw same at e in
+        absurd (let z : ◌≡◌ {A = ℕ} 0 1 = let none_is : None ≡ Some p = sym (gone slots j) ∙ no in cc in omega arith)
+    by-test false q = still x p (sym (get_or-set_other slots j x None None (eqb-false x j q)) ∙ e)
 
 -- what the children weigh, and 2 for each, goes with them
-held-without : (before : Slots) (js : List ℕ) (slots : Slots) {left : Slots} → AsIn before slots → without js slots ≡ some left
+held-without : (before : Slots) (js : List ℕ) (slots : Slots) {left : Slots} → AsIn before slots → without js slots ≡ Some left
     → held slots ≡ weights_in (those js before) + 2 * length js + held left
 unfolding without weights_in
 held-without before [] slots still e =
     let same = ap held (some_same e) in
     omega arith
 held-without before (j ∷ js) slots {left} still e =
-    by-slot (held-without before js (set slots j none) (as-in-less before slots j still)) (slot slots j) refl e
+    by-slot (held-without before js (set slots j None) (as-in-less before slots j still)) (slot slots j) refl e
   where
-    by-slot : (without js (set slots j none) ≡ some left → held (set slots j none) ≡ weights_in (those js before) + 2 * length js + held left)
-        → (o : Option Policy) → slot slots j ≡ o → if_there o (without js (set slots j none)) ≡ some left
+    by-slot : (without js (set slots j None) ≡ Some left → held (set slots j None) ≡ weights_in (those js before) + 2 * length js + held left)
+        → (o : Option Policy) → slot slots j ≡ o → if_there o (without js (set slots j None)) ≡ Some left
         → held slots ≡ weights_in (those (j ∷ js) before) + 2 * length (j ∷ js) + held left
-    by-slot after (some p) q e =
-        let first : slot before j ≡ some p = still j p q in
-        let others : held (set slots j none) ≡ weights_in (those js before) + 2 * length js + held left = after e in
-        let taken : held slots ≡ (2 + weight p) + held (set slots j none) = held-taken slots j q in
+    by-slot after (Some p) q e =
+        let first : slot before j ≡ Some p = still j p q in
+        let others : held (set slots j None) ≡ weights_in (those js before) + 2 * length js + held left = after e in
+        let taken : held slots ≡ (2 + weight p) + held (set slots j None) = held-taken slots j q in
         rw first (omega arith)
-    by-slot after none q e = absurd (let z : ◌≡◌ {A = ℕ} 0 1 = cc in omega arith)
+    by-slot after None q e = absurd (let z : ◌≡◌ {A = ℕ} 0 1 = cc in omega arith)
 
 -- ---- a record adds 3 at most
 
-record-adds : (slots : Slots) (s : List ℕ) (p : Payload) {left : Slots} → policy_payload s ≡ some p
-    → without (payload.children_of p) slots ≡ some left → held (left ++ (some (written (kind_of s) p slots) ∷ [])) ≤ 3 + held slots
+record-adds : (slots : Slots) (s : List ℕ) (p : Payload) {left : Slots} → policy_payload s ≡ Some p
+    → without (payload.children_of p) slots ≡ Some left → held (left ++ (Some (written (kind_of s) p slots) ∷ [])) ≤ 3 + held slots
 record-adds slots s p {left} e w =
     let cs : List Policy = those (payload.children_of p) slots in
     let many : length cs ≡ length (payload.children_of p) = length-map (payload.children_of p) _ in
@@ -132,31 +132,31 @@ whole-adds slots len s {next} e = by-payload (policy_payload s) refl e
         let same : next ≡ record { len = len; slots = after } = cc in
         rw same h
 
-    by_left : (p : Payload) → policy_payload s ≡ some p → (o : Option Slots) → without (payload.children_of p) slots ≡ o
+    by_left : (p : Payload) → policy_payload s ≡ Some p → (o : Option Slots) → without (payload.children_of p) slots ≡ o
         → (or_refuse 3 o
-        >>= λ left. refuse_if 4 (weighs_nothing (kind_of s) p) (record { len = len; slots = left ++ (some (written (kind_of s) p slots) ∷ []) }))
+        >>= λ left. refuse_if 4 (weighs_nothing (kind_of s) p) (record { len = len; slots = left ++ (Some (written (kind_of s) p slots) ∷ []) }))
         ≡ done next
         → held next.slots ≤ 3 + held slots
-    by_left p q (some left) w e =
-        by_weights (weighs_nothing (kind_of s) p) (left ++ (some (written (kind_of s) p slots) ∷ [])) (record-adds slots s p q w) e
-    by_left p q none w e = absurd (let z : ◌≡◌ {A = ℕ} 0 1 = cc in omega arith)
+    by_left p q (Some left) w e =
+        by_weights (weighs_nothing (kind_of s) p) (left ++ (Some (written (kind_of s) p slots) ∷ [])) (record-adds slots s p q w) e
+    by_left p q None w e = absurd (let z : ◌≡◌ {A = ℕ} 0 1 = cc in omega arith)
 
     by-payload : (o : Option Payload) → policy_payload s ≡ o
         → (or_refuse 3 o
         >>= λ p. or_refuse 3 (without (payload.children_of p) slots)
-        >>= λ left. refuse_if 4 (weighs_nothing (kind_of s) p) (record { len = len; slots = left ++ (some (written (kind_of s) p slots) ∷ []) }))
+        >>= λ left. refuse_if 4 (weighs_nothing (kind_of s) p) (record { len = len; slots = left ++ (Some (written (kind_of s) p slots) ∷ []) }))
         ≡ done next
         → held next.slots ≤ 3 + held slots
-    by-payload (some p) q e = by_left p q (without (payload.children_of p) slots) refl e
-    by-payload none q e = absurd (let z : ◌≡◌ {A = ℕ} 0 1 = cc in omega arith)
+    by-payload (Some p) q e = by_left p q (without (payload.children_of p) slots) refl e
+    by-payload None q e = absurd (let z : ◌≡◌ {A = ℕ} 0 1 = cc in omega arith)
 
 reading-adds : (slots : Slots) (s : List ℕ) {next : Next} → read_record slots s ≡ done next → held next.slots ≤ 3 + held slots
 unfolding read_record
 reading-adds slots s {next} e = by_length (record_length s) e
   where
     by_length : (o : Option ℕ) → (or_refuse 3 o >>= λ len. read_whole slots len (take len s)) ≡ done next → held next.slots ≤ 3 + held slots
-    by_length (some n) e = whole-adds slots n (take n s) e
-    by_length none e = absurd (let z : ◌≡◌ {A = ℕ} 0 1 = cc in omega arith)
+    by_length (Some n) e = whole-adds slots n (take n s) e
+    by_length None e = absurd (let z : ◌≡◌ {A = ℕ} 0 1 = cc in omega arith)
 
 -- ---- the policy
 
@@ -164,17 +164,17 @@ finish-held : (slots : Slots) {p : Policy} → finish slots ≡ done p → 2 + w
 unfolding finish
 finish-held slots {p} e = by-root (root_of slots) refl e
   where
-    by-depth : (b : Bool) (root : Policy) → root_of slots ≡ some root → cond b (done root) (refused 5) ≡ done p → 2 + weight p ≤ held slots
+    by-depth : (b : Bool) (root : Policy) → root_of slots ≡ Some root → cond b (done root) (refused 5) ≡ done p → 2 + weight p ≤ held slots
     by-depth true root q e =
         let same : root ≡ p = cc in
-        held-root slots (q ∙ ap some same)
+        held-root slots (q ∙ ap Some same)
     by-depth false root q e = absurd (let z : ◌≡◌ {A = ℕ} 0 1 = cc in omega arith)
 
     by-root : (o : Option Policy) → root_of slots ≡ o
         → (or_refuse 3 o >>= λ root. cond (leb (depth root) 16) (done root) (refused 5)) ≡ done p
         → 2 + weight p ≤ held slots
-    by-root (some root) q e = by-depth (leb (depth root) 16) root q e
-    by-root none q e = absurd (let z : ◌≡◌ {A = ℕ} 0 1 = cc in omega arith)
+    by-root (Some root) q e = by-depth (leb (depth root) 16) root q e
+    by-root None q e = absurd (let z : ◌≡◌ {A = ℕ} 0 1 = cc in omega arith)
 
 from-held : (left : ℕ) (slots : Slots) (s : List ℕ) {p : Policy} → read_from left slots s ≡ done p → 2 + weight p ≤ held slots + 3 * left
 unfolding read_from
@@ -201,14 +201,14 @@ weight-bounded bytes e = let h = from-held 64 [] bytes e in omega arith
 
 -- ---- what `read_policy` answers
 
-module _ (bytes m₀ m : List ℕ) {r : ReadPolicy} (read : PolicyRead bytes m₀ r m) where
+module _ (bytes m₀ m : List ℕ) {r : Result ℕ Refusal} (read : PolicyRead bytes m₀ r m) where
   -- what `weight` asks for holds of its root
-  pub weighable : (root : ℕ) → r ≡ ReadPolicy.Root root → Good m × ((root < max_records) × (weight (policy_at m root) ≤ max_weight))
+  pub weighable : (root : ℕ) → r ≡ Ok root → Good m × ((root < max_records) × (weight (policy_at m root) ≤ max_weight))
   weighable root e = by_answer read
     where
       by_answer : PolicyRead bytes m₀ r m → Good m × ((root < max_records) × (weight (policy_at m root) ≤ max_weight))
       by_answer (reads long told) =
-          let good : PolicyGood (ReadPolicy.Root root) m = rw e at told.good in
+          let good : PolicyGood (Ok root) m = rw e at told.good in
           let is : read_policy bytes ≡ done (policy_at m root) = some_same (told.says ∙ rw e) in
           (good.0, (good.1, weight-bounded bytes is))
       by_answer (bad-array short q) = absurd (let z : ◌≡◌ {A = ℕ} 0 1 = cc in omega arith)

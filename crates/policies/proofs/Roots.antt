@@ -1,8 +1,10 @@
 -- The root: the last slot, every other being taken; and the policy that it is. Assumes nothing.
-use mathlib.Core.Path.{◌≡◌, refl, sym, ◌∙◌, ap}
-use mathlib.Core.Bool.{Bool, true, false}
+use Rattle.refusals.specs.declared.Refusal.{Refusal}
+use Rattle.refusals.specs.Numbers.{number_of}
+use mathlib.Core.Path.{◌≡◌, refl, sym, subst, ◌∙◌, ap}
+use mathlib.Core.Bool.{Bool, true, false, cond}
 use mathlib.Core.List.{List, [], ◌∷◌}
-use mathlib.Core.Option.{Option, none, some}
+use Rattle.std.specs.Prelude.{Option, None, Some, Result, Ok, Err}
 use Prim.Native.Nat.{ℕ, zero, suc, ◌+◌, ◌*◌, ◌-◌, ◌<◌, ◌≤◌}
 use native.Mathlib.Numerals.{add-one}
 use native.Mathlib.Omega.{arith}
@@ -11,11 +13,9 @@ use lib.Dec.{eqb, leb}
 use lib.ListN.{length, get_or, drop, length-drop, replicate, length-replicate, drop_of_length-le}
 use lib.Seq.{drop-cons}
 use Rattle.policies.specs.Policy.{Policy, depth}
-use Rattle.policies.specs.Reading.{Slots, root_of, finish, read_policy}
+use Rattle.policies.specs.Reading.{Answer, refused, Slots, root_of, finish, read_policy}
 use Rattle.policies.specs.Array.{taken_at, count_at, record_policy, policy_at, slot_at, slots_at, Good}
-use Rattle.policies.specs.Answers.{Rooted, root, no-root, Read, PolicyRead, reads, bad-array, AllRead, RecordsGood}
-use Rattle.policies.specs.declared.RecordsRead.{RecordsRead}
-use Rattle.policies.specs.declared.ReadPolicy.{ReadPolicy}
+use Rattle.policies.specs.Answers.{Rooted, root, no-root, Read, PolicyRead, reads, bad-array, AllRead, RecordsGood, OfReading, refusal_answer}
 use Rattle.words.specs.Memory.{zeroed}
 use Rattle.policies.proofs.Slots.{length-slots, slot-at}
 use Rattle.policies.proofs.Views.{stored_is}
@@ -32,24 +32,24 @@ root-starts m last = record { within = omega arith; still = refl }
 next-slot : (m : List ℕ) (last i : ℕ) → i ≤ last → drop i (slots_at m (suc last)) ≡ slot_at m i ∷ drop (suc i) (slots_at m (suc last))
 next-slot m last i h =
     let l : length (slots_at m (suc last)) ≡ suc last = length-slots m (suc last) in
-    drop-cons (slots_at m (suc last)) i none (omega arith)
+    drop-cons (slots_at m (suc last)) i None (omega arith)
     ∙ ap (λ (s : Option Policy). s ∷ drop (suc i) (slots_at m (suc last))) (slot-at m i (suc last) (omega arith))
 
 -- a slot that is not taken, with others behind it
-unused : (p : Policy) (slots : Slots) → 1 ≤ length slots → root_of (some p ∷ slots) ≡ none
+unused : (p : Policy) (slots : Slots) → 1 ≤ length slots → root_of (Some p ∷ slots) ≡ None
 unfolding root_of
 unused p [] h = absurd (omega arith)
 unused p (s ∷ slots) h = refl
 
-used : (slots : Slots) → 1 ≤ length slots → root_of (none ∷ slots) ≡ root_of slots
+used : (slots : Slots) → 1 ≤ length slots → root_of (None ∷ slots) ≡ root_of slots
 unfolding root_of
 used [] h = absurd (omega arith)
 used (s ∷ slots) h = refl
 
 alone : (s : Option Policy) → root_of (s ∷ []) ≡ s
 unfolding root_of
-alone none = refl
-alone (some p) = refl
+alone None = refl
+alone (Some p) = refl
 
 module _ (m : List ℕ) (last i : ℕ) (inv : RootInv m last i) where
   behind : i < last → 1 ≤ length (drop (suc i) (slots_at m (suc last)))
@@ -85,15 +85,15 @@ module _ (m : List ℕ) (last i : ℕ) (inv : RootInv m last i) where
 
 -- ---- the end of the reading
 
-rooted-false : (m : List ℕ) (last : ℕ) {r : Bool} → Rooted m last r → r ≡ false → root_of (slots_at m (suc last)) ≡ none
+rooted-false : (m : List ℕ) (last : ℕ) {r : Bool} → Rooted m last r → r ≡ false → root_of (slots_at m (suc last)) ≡ None
 rooted-false m last (root e) q = absurd (let z : ◌≡◌ {A = ℕ} 0 1 = cc in omega arith)
 rooted-false m last (no-root e) q = e
 
-rooted-true : (m : List ℕ) (last : ℕ) {r : Bool} → Rooted m last r → r ≡ true → root_of (slots_at m (suc last)) ≡ some (record_policy m last)
+rooted-true : (m : List ℕ) (last : ℕ) {r : Bool} → Rooted m last r → r ≡ true → root_of (slots_at m (suc last)) ≡ Some (record_policy m last)
 rooted-true m last (root e) q = e
 rooted-true m last (no-root e) q = absurd (let z : ◌≡◌ {A = ℕ} 0 1 = cc in omega arith)
 
-pub finish-empty : (m : List ℕ) (count : ℕ) → count ≡ 0 → Read (finish (slots_at m count)) ReadPolicy.BadPolicy m
+pub finish-empty : (m : List ℕ) (count : ℕ) → count ≡ 0 → Read (finish (slots_at m count)) (Err Refusal.BadPolicy) m
 unfolding finish slots_at root_of
 finish-empty m count e = rw e (record { says = refl; good = tt })
 
@@ -101,26 +101,26 @@ module _ (m : List ℕ) (count : ℕ) (g : Good m) (few : count ≤ 64) (ne : co
   one_more : count ≡ suc (count - 1)
   one_more = omega (arith, ne)
 
-  pub finish-bad : r ≡ false → Read (finish (slots_at m count)) ReadPolicy.BadPolicy m
+  pub finish-bad : r ≡ false → Read (finish (slots_at m count)) (Err Refusal.BadPolicy) m
   unfolding finish
   finish-bad q =
-      let e : root_of (slots_at m count) ≡ none = ap (λ (k : ℕ). root_of (slots_at m k)) one_more ∙ rooted-false m (count - 1) rooted q in
+      let e : root_of (slots_at m count) ≡ None = ap (λ (k : ℕ). root_of (slots_at m k)) one_more ∙ rooted-false m (count - 1) rooted q in
       record { says = rw e; good = tt }
 
   module _ (q : r ≡ true) {d : ℕ} (deep : d ≡ depth (policy_at m (count - 1))) where
-    the-root : root_of (slots_at m count) ≡ some (policy_at m (count - 1))
+    the-root : root_of (slots_at m count) ≡ Some (policy_at m (count - 1))
     the-root =
         ap (λ (k : ℕ). root_of (slots_at m k)) one_more
         ∙ rooted-true m (count - 1) rooted q
-        ∙ ap some (sym (stored_is m (count - 1) (omega (arith, ne))))
+        ∙ ap Some (sym (stored_is m (count - 1) (omega (arith, ne))))
 
-    pub finish-deep : 16 < d → Read (finish (slots_at m count)) ReadPolicy.PolicyTooLarge m
+    pub finish-deep : 16 < d → Read (finish (slots_at m count)) (Err Refusal.PolicyTooLarge) m
     unfolding finish
     finish-deep h =
         let t : leb (depth (policy_at m (count - 1))) 16 ≡ false = lt-leb (depth (policy_at m (count - 1))) 16 (omega arith) in
         record { says = rw (the-root, t); good = tt }
 
-    pub finish-done : d ≤ 16 → Read (finish (slots_at m count)) (ReadPolicy.Root (count - 1)) m
+    pub finish-done : d ≤ 16 → Read (finish (slots_at m count)) (Ok (count - 1)) m
     unfolding finish
     finish-done h =
         let t : leb (depth (policy_at m (count - 1))) 16 ≡ true = le-leb (depth (policy_at m (count - 1))) 16 (omega arith) in
@@ -137,39 +137,43 @@ pub cleared : (m : List ℕ) {m' : List ℕ} → length m ≡ 2560 → m' ≡ ze
 cleared m long e =
     rw e
     (record {
-      rows = record { long = length-replicate (length m) 0 ∙ long; few = λ i l. rw (none i) (omega arith) };
-      below = λ i j l u. absurd (let z = none i in omega arith);
+      rows = record { long = length-replicate (length m) 0 ∙ long; few = λ i l. rw (empty i) (omega arith) };
+      below = λ i j l u. absurd (let z = empty i in omega arith);
       some_of = λ i l k. absurd (let z = zero_word (length m) (40 * i + 0) in omega arith);
     })
   where
-    none : (i : ℕ) → count_at (zeroed m) i ≡ 0
-    none i = rw (zero_word (length m) (40 * i + 0))
+    empty : (i : ℕ) → count_at (zeroed m) i ≡ 0
+    empty i = rw (zero_word (length m) (40 * i + 0))
 
-pub not-whole : (bytes m₀ m : List ℕ) → (length m₀ ≡ 2560 → ⊥) → PolicyRead bytes m₀ ReadPolicy.BadArray m
+pub not-whole : (bytes m₀ m : List ℕ) → (length m₀ ≡ 2560 → ⊥) → PolicyRead bytes m₀ (Err Refusal.BadWork) m
 not-whole bytes m₀ m ne = bad-array ne refl
 
-module _ (bytes m₀ m : List ℕ) (long : length m₀ ≡ 2560) {all : RecordsRead} (read : AllRead (read_policy bytes) all m) where
-  pub policy-bad : all ≡ RecordsRead.BadPolicy → PolicyRead bytes m₀ ReadPolicy.BadPolicy m
-  policy-bad e = reads long (record { says = ap some (read.says ∙ rw e); good = tt })
+module _ (bytes m₀ m : List ℕ) (long : length m₀ ≡ 2560) {all : Result ℕ Refusal} (read : AllRead (read_policy bytes) all m) where
+  pub policy-refused : {r : Refusal} → all ≡ Err r → PolicyRead bytes m₀ (Err r) m
+  policy-refused {r} e =
+      let good : OfReading r = subst (λ (x : Result ℕ Refusal). RecordsGood x m) e read.good in
+      let says : read_policy bytes ≡ refused (number_of r) = read.says ∙ rw e in
+      let told : ◌≡◌ {A = Option (Answer Policy)} (Some (refused (number_of r))) (refusal_answer (number_of r)) = rw (ne_eqb (number_of r) 2 good) in
+      reads long (record { says = ap Some says ∙ told; good = tt })
 
-  pub policy-zero : all ≡ RecordsRead.ZeroWeight → PolicyRead bytes m₀ ReadPolicy.ZeroWeight m
-  policy-zero e = reads long (record { says = ap some (read.says ∙ rw e); good = tt })
-
-  pub policy-large : all ≡ RecordsRead.PolicyTooLarge → PolicyRead bytes m₀ ReadPolicy.PolicyTooLarge m
-  policy-large e = reads long (record { says = ap some (read.says ∙ rw e); good = tt })
-
-  all-good : (all : RecordsRead) (count : ℕ) → all ≡ RecordsRead.All count → RecordsGood all m → Good m × (count ≤ 64)
-  all-good (RecordsRead.All n) count e g =
+  all-good : (all : Result ℕ Refusal) (count : ℕ) → all ≡ Ok count → RecordsGood all m → Good m × (count ≤ 64)
+  all-good (Ok n) count e g =
       let same : n ≡ count = cc in
       (g.0, omega (arith, g.1))
-  all-good RecordsRead.BadPolicy count e g = absurd (let z : ◌≡◌ {A = ℕ} 0 1 = cc in omega arith)
-  all-good RecordsRead.ZeroWeight count e g = absurd (let z : ◌≡◌ {A = ℕ} 0 1 = cc in omega arith)
-  all-good RecordsRead.PolicyTooLarge count e g = absurd (let z : ◌≡◌ {A = ℕ} 0 1 = cc in omega arith)
+  all-good (Err r) count e g = absurd (let z : ◌≡◌ {A = ℕ} 0 1 = cc in omega arith)
 
-  pub policy-ready : (count : ℕ) → all ≡ RecordsRead.All count → Good m × (count ≤ 64)
+  pub policy-ready : (count : ℕ) → all ≡ Ok count → Good m × (count ≤ 64)
   policy-ready count e = all-good all count e read.good
 
-  pub policy-done : (count : ℕ) → all ≡ RecordsRead.All count → {r : ReadPolicy} → Read (finish (slots_at m count)) r m → PolicyRead bytes m₀ r m
+  pub policy-done : (count : ℕ) → all ≡ Ok count → {r : Result ℕ Refusal} → Read (finish (slots_at m count)) r m → PolicyRead bytes m₀ r m
   policy-done count e {r} finished =
       let same : read_policy bytes ≡ finish (slots_at m count) = read.says ∙ rw e in
-      reads long (record { says = ap some same ∙ finished.says; good = finished.good })
+      reads long (record { says = ap Some same ∙ finished.says; good = finished.good })
+
+-- what a refusal says of the bytes
+pub refusal-is : {answer : Answer Policy} {r : Refusal} {m : List ℕ} → Read answer (Err r) m → answer ≡ refused (number_of r)
+refusal-is {answer} {r} {m} read = by-test (eqb (number_of r) 2) read.says
+  where
+    by-test : (b : Bool) → Some answer ≡ cond b None (Some (refused (number_of r))) → answer ≡ refused (number_of r)
+    by-test true e = absurd (let z : ◌≡◌ {A = ℕ} 0 1 = cc in omega arith)
+    by-test false e = cc

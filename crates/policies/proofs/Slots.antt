@@ -2,7 +2,7 @@
 use mathlib.Core.Path.{◌≡◌, refl, sym, ◌∙◌, ap}
 use mathlib.Core.Bool.{Bool, true, false}
 use mathlib.Core.List.{List, [], ◌∷◌, ◌++◌}
-use mathlib.Core.Option.{Option, none, some}
+use Rattle.std.specs.Prelude.{Option, None, Some}
 use Prim.Native.Nat.{ℕ, zero, suc, ◌+◌, ◌*◌, ◌-◌, ◌<◌, ◌≤◌}
 use native.Mathlib.Omega.{arith}
 use borrow.Author.Tests.{eq-eqb, ne_eqb, eqb-true, eqb-false}
@@ -84,16 +84,16 @@ slot-at m x (suc n) h = by-test (slot-at m x n) (eqb x n) refl
     by-test : (x < n → slot (slots_at m n) x ≡ slot_at m x) → (t : Bool) → eqb x n ≡ t → slot (slots_at m n ++ (slot_at m n ∷ [])) x ≡ slot_at m x
     by-test before true e =
         let same : x ≡ n = eqb-true x n e in
-        rw same (get_or_at (slots_at m n) (slot_at m n) [] none n (length-slots m n))
+        rw same (get_or_at (slots_at m n) (slot_at m n) [] None n (length-slots m n))
     by-test before false e =
         let ne = eqb-false x n e in
         let l : length (slots_at m n) ≡ n = length-slots m n in
-        get_or-append (slots_at m n) (slot_at m n ∷ []) none x (omega arith) ∙ before (omega arith)
+        get_or-append (slots_at m n) (slot_at m n ∷ []) None x (omega arith) ∙ before (omega arith)
 
-pub slot-past : (m : List ℕ) (x n : ℕ) → n ≤ x → slot (slots_at m n) x ≡ none
+pub slot-past : (m : List ℕ) (x n : ℕ) → n ≤ x → slot (slots_at m n) x ≡ None
 slot-past m x n h =
     let l : length (slots_at m n) ≡ n = length-slots m n in
-    get_or-eq_default (slots_at m n) none {n = x} (omega arith)
+    get_or-eq_default (slots_at m n) None {n = x} (omega arith)
 
 -- ---- a mark
 
@@ -107,20 +107,20 @@ mark-own : (m : List ℕ) (c : ℕ) → length m ≡ 2560 → c < 64 → taken_a
 mark-own m c long h = get_or-set_same m (40 * c + 22) 1 0 (omega arith)
 
 -- a mark takes the policy from its slot
-slots-mark : (m : List ℕ) (c n : ℕ) → Rows m → c < n → n ≤ 64 → slots_at (set m (40 * c + 22) 1) n ≡ set (slots_at m n) c none
+slots-mark : (m : List ℕ) (c n : ℕ) → Rows m → c < n → n ≤ 64 → slots_at (set m (40 * c + 22) 1) n ≡ set (slots_at m n) c None
 slots-mark m c n rows h top =
     let m' : List ℕ = set m (40 * c + 22) 1 in
     let l : length (slots_at m n) ≡ n = length-slots m n in
     let l' : length (slots_at m' n) ≡ n = length-slots m' n in
-    ext_get_or none (slots_at m' n) (set (slots_at m n) c none) (l' ∙ sym (length-set (slots_at m n) c none ∙ l))
+    ext_get_or None (slots_at m' n) (set (slots_at m n) c None) (l' ∙ sym (length-set (slots_at m n) c None ∙ l))
     (λ x u. each x (omega arith) (eqb x c) refl)
   where
-    each : (x : ℕ) → x < n → (t : Bool) → eqb x c ≡ t → slot (slots_at (set m (40 * c + 22) 1) n) x ≡ slot (set (slots_at m n) c none) x
+    each : (x : ℕ) → x < n → (t : Bool) → eqb x c ≡ t → slot (slots_at (set m (40 * c + 22) 1) n) x ≡ slot (set (slots_at m n) c None) x
     each x u true e =
         let same : x ≡ c = eqb-true x c e in
         let l : length (slots_at m n) ≡ n = length-slots m n in
         rw (same, slot-at (set m (40 * c + 22) 1) c n h, mark-own m c rows.long (omega arith))
-        (sym (get_or-set_same (slots_at m n) c none none (omega arith)))
+        (sym (get_or-set_same (slots_at m n) c None None (omega arith)))
     each x u false e =
         let ne : x ≡ c → ⊥ = eqb-false x c e in
         slot-at (set m (40 * c + 22) 1) x n u
@@ -139,7 +139,7 @@ slots-mark m c n rows h top =
         (λ y v. rows.few y (omega arith))
         u)
         ∙ sym (slot-at m x n u)
-        ∙ sym (get_or-set_other (slots_at m n) c x none none ne)
+        ∙ sym (get_or-set_other (slots_at m n) c x None None ne)
 
 -- ---- the children of row i, one by one
 
@@ -178,7 +178,7 @@ next_word m i n j h =
     rw k (ap (λ (a : ℕ). get_or m a 0 ∷ words_from m (suc (40 * i + 6 + j)) (n - (j + 1))) e
     ∙ ap (λ (a : ℕ). child_at m i j ∷ words_from m a (n - (j + 1))) f)
 
-nothing_left : (slots : Slots) (m : List ℕ) (at : ℕ) → without (words_from m at 0) slots ≡ some slots
+nothing_left : (slots : Slots) (m : List ℕ) (at : ℕ) → without (words_from m at 0) slots ≡ Some slots
 unfolding without words_from
 nothing_left slots m at = refl
 
@@ -191,7 +191,7 @@ module _ (i n : ℕ) (m₀ m : List ℕ) (j : ℕ) (rows : Rows m₀) (top : i <
     the-child = e ∙ inv.marked.rows i (6 + j) (omega arith)
 
     from-child : without (words_from m₀ (40 * i + 6) n) (slots_at m₀ i)
-        ≡ if_there (slot (slots_at m i) c) (without (words_from m₀ (40 * i + 6 + (j + 1)) (n - (j + 1))) (set (slots_at m i) c none))
+        ≡ if_there (slot (slots_at m i) c) (without (words_from m₀ (40 * i + 6 + (j + 1)) (n - (j + 1))) (set (slots_at m i) c None))
     unfolding without
     from-child = sym inv.still ∙ rw (next_word m₀ i n j l, the-child)
 
@@ -229,7 +229,7 @@ module _ (i n : ℕ) (m₀ m : List ℕ) (j : ℕ) (rows : Rows m₀) (top : i <
   pub took-all : n ≤ j → Took i n m₀ m true
   took-all h = all last inv.marked (λ x u. inv.below x (omega arith))
     where
-      last : without (words_from m₀ (40 * i + 6) n) (slots_at m₀ i) ≡ some (slots_at m i)
+      last : without (words_from m₀ (40 * i + 6) n) (slots_at m₀ i) ≡ Some (slots_at m i)
       last =
           let k : n - j ≡ 0 = omega arith in
           sym inv.still ∙ rw k (nothing_left (slots_at m i) m₀ (40 * i + 6 + j))

@@ -1,8 +1,9 @@
 -- One whole record: the row written, its children taken, and the slots with its own added. Assumes nothing.
+use Rattle.refusals.specs.declared.Refusal.TheVariants as Refusal
 use mathlib.Core.Path.{◌≡◌, refl, sym, ◌∙◌, ap}
 use mathlib.Core.Bool.{Bool, true, false, cond, ◌&&◌, ◌||◌}
 use mathlib.Core.List.{List, [], ◌∷◌, ◌++◌, map}
-use mathlib.Core.Option.{Option, none, some}
+use Rattle.std.specs.Prelude.{Option, None, Some, Ok, Err}
 use Prim.Native.Nat.{ℕ, zero, suc, ◌+◌, ◌*◌, ◌<◌, ◌≤◌}
 use native.Mathlib.Omega.{arith}
 use borrow.Author.Tests.{eqb-true, eqb-false}
@@ -20,7 +21,6 @@ use Rattle.policies.specs.Reading.{Slots, slot, if_there, without, the_policy, t
 use Rattle.policies.specs.Array.{word_at, kind_at, child_at, taken_at, count_at, words_from, children_at, row_policy, policies, record_policy}
 use Rattle.policies.specs.Array.{slot_at, slots_at, Rows, Good}
 use Rattle.policies.specs.Answers.{Marked, Took, all, some-missing, Stepped, put_row}
-use Rattle.policies.specs.declared.Step.TheVariants as Step
 use Rattle.policies.proofs.Views.{words-list, stored_row, earlier}
 use Rattle.policies.proofs.Rows.{RowPut, row_put}
 use Rattle.policies.proofs.Fits.{Fit, fit}
@@ -28,7 +28,7 @@ use Rattle.policies.proofs.Slots.{Agree, record_same, slots_same, slot-at, marke
 
 -- ---- children that are there
 
-still-none : (slots : Slots) (x y : ℕ) → slot slots y ≡ none → slot (set slots x none) y ≡ none
+still-none : (slots : Slots) (x y : ℕ) → slot slots y ≡ None → slot (set slots x None) y ≡ None
 still-none [] x y h = h
 still-none (s ∷ slots) zero zero h = refl
 still-none (s ∷ slots) zero (suc y) h = h
@@ -36,26 +36,26 @@ still-none (s ∷ slots) (suc x) zero h = h
 still-none (s ∷ slots) (suc x) (suc y) h = still-none slots x y h
 
 -- what is taken was in its slot
-present : (js : List ℕ) (slots : Slots) {left : Slots} → without js slots ≡ some left → (j : ℕ) → j < length js → slot slots (get_or js j 0) ≡ none → ⊥
+present : (js : List ℕ) (slots : Slots) {left : Slots} → without js slots ≡ Some left → (j : ℕ) → j < length js → slot slots (get_or js j 0) ≡ None → ⊥
 unfolding without
 present [] slots e j l z = omega arith
 present (x ∷ js) slots {left} e zero l z = missing (slot slots x) z e
   where
-    missing : (o : Option Policy) → o ≡ none → if_there o (without js (set slots x none)) ≡ some left → ⊥
-    missing (some q) z e = let c : ◌≡◌ {A = ℕ} 0 1 = cc in omega arith
-    missing none z e = let c : ◌≡◌ {A = ℕ} 0 1 = cc in omega arith
+    missing : (o : Option Policy) → o ≡ None → if_there o (without js (set slots x None)) ≡ Some left → ⊥
+    missing (Some q) z e = let c : ◌≡◌ {A = ℕ} 0 1 = cc in omega arith
+    missing None z e = let c : ◌≡◌ {A = ℕ} 0 1 = cc in omega arith
 present (x ∷ js) slots {left} e (suc j) l z =
-    present js (set slots x none) (others (slot slots x) e) j (omega arith) (still-none slots x (get_or js j 0) z)
+    present js (set slots x None) (others (slot slots x) e) j (omega arith) (still-none slots x (get_or js j 0) z)
   where
-    others : (o : Option Policy) → if_there o (without js (set slots x none)) ≡ some left → without js (set slots x none) ≡ some left
-    others (some q) e = e
-    others none e = cc
+    others : (o : Option Policy) → if_there o (without js (set slots x None)) ≡ Some left → without js (set slots x None) ≡ Some left
+    others (Some q) e = e
+    others None e = cc
 
 -- what stands in a slot is the record's policy
-the-slot : (m : List ℕ) (c : ℕ) → (slot_at m c ≡ none → ⊥) → record_policy m c ≡ the_policy (slot_at m c)
+the-slot : (m : List ℕ) (c : ℕ) → (slot_at m c ≡ None → ⊥) → record_policy m c ≡ the_policy (slot_at m c)
 the-slot m c ne = by-test (eqb (taken_at m c) 0) ne
   where
-    by-test : (t : Bool) → (cond t (some (record_policy m c)) none ≡ none → ⊥) → record_policy m c ≡ the_policy (cond t (some (record_policy m c)) none)
+    by-test : (t : Bool) → (cond t (Some (record_policy m c)) None ≡ None → ⊥) → record_policy m c ≡ the_policy (cond t (Some (record_policy m c)) None)
     by-test true ne = refl
     by-test false ne = absurd (ne refl)
 
@@ -69,7 +69,7 @@ same_map f g (x ∷ cs) h =
 -- ---- what taking tells
 
 pub record TookAll (i n : ℕ) (m₀ m : List ℕ) : Type 0 where
-  pub left : without (words_from m₀ (40 * i + 6) n) (slots_at m₀ i) ≡ some (slots_at m i)
+  pub left : without (words_from m₀ (40 * i + 6) n) (slots_at m₀ i) ≡ Some (slots_at m i)
   pub marked : Marked i m₀ m
   pub below : (j : ℕ) → j < n → child_at m₀ i j < i
 
@@ -77,14 +77,14 @@ took_true : (i n : ℕ) (m₀ m : List ℕ) {r : Bool} → Took i n m₀ m r →
 took_true i n m₀ m (all w k b) e = record { left = w; marked = k; below = b }
 took_true i n m₀ m (some-missing w) e = absurd (let z : ◌≡◌ {A = ℕ} 0 1 = cc in omega arith)
 
-took-false : (i n : ℕ) (m₀ m : List ℕ) {r : Bool} → Took i n m₀ m r → r ≡ false → without (words_from m₀ (40 * i + 6) n) (slots_at m₀ i) ≡ none
+took-false : (i n : ℕ) (m₀ m : List ℕ) {r : Bool} → Took i n m₀ m r → r ≡ false → without (words_from m₀ (40 * i + 6) n) (slots_at m₀ i) ≡ None
 took-false i n m₀ m (all w k b) e = absurd (let z : ◌≡◌ {A = ℕ} 0 1 = cc in omega arith)
 took-false i n m₀ m (some-missing w) e = w
 
 -- ---- the row, written and taken
 
-module _ (m s : List ℕ) (i : ℕ) (g : Good m) (top : i < 64) (p : Payload) (e : policy_payload s ≡ some p) (m₁ : List ℕ)
-    (e₁ : m₁ ≡ put_row m i (kind_of s) (parts_of (some p))) where
+module _ (m s : List ℕ) (i : ℕ) (g : Good m) (top : i < 64) (p : Payload) (e : policy_payload s ≡ Some p) (m₁ : List ℕ)
+    (e₁ : m₁ ≡ put_row m i (kind_of s) (parts_of (Some p))) where
   n : ℕ
   n = payload.count_of p
 
@@ -140,7 +140,7 @@ module _ (m s : List ℕ) (i : ℕ) (g : Good m) (top : i < 64) (p : Payload) (e
   take-ready = (rows-put, (top, rw fits.keyless fits.few))
 
   module _ (m₂ : List ℕ) (taken : TookAll i n m₁ m₂) where
-    left_is : without (payload.children_of p) (slots_at m i) ≡ some (slots_at m₂ i)
+    left_is : without (payload.children_of p) (slots_at m i) ≡ Some (slots_at m₂ i)
     left_is = rw (← words-put, ← slots-put) taken.left
 
     child-is : (j : ℕ) → j < length (payload.children_of p) → child_at m₁ i j ≡ get_or (payload.children_of p) j 0
@@ -183,7 +183,7 @@ module _ (m s : List ℕ) (i : ℕ) (g : Good m) (top : i < 64) (p : Payload) (e
         same_map (λ c. nth (policies m₂ i) c) (λ c. the_policy (slot (slots_at m i) c)) (payload.children_of p)
         (λ j l. one (get_or (payload.children_of p) j 0) (smaller j l) (present (payload.children_of p) (slots_at m i) left_is j l))
       where
-        one : (c : ℕ) → c < i → (slot (slots_at m i) c ≡ none → ⊥) → nth (policies m₂ i) c ≡ the_policy (slot (slots_at m i) c)
+        one : (c : ℕ) → c < i → (slot (slots_at m i) c ≡ None → ⊥) → nth (policies m₂ i) c ≡ the_policy (slot (slots_at m i) c)
         one c l there =
             let at : slot (slots_at m i) c ≡ slot_at m c = slot-at m c i l in
             earlier m₂ c i l (omega arith)
@@ -205,7 +205,7 @@ module _ (m s : List ℕ) (i : ℕ) (g : Good m) (top : i < 64) (p : Payload) (e
           those-are,
         )
 
-    slots-are : slots_at m₂ (suc i) ≡ slots_at m₂ i ++ (some (written (kind_of s) p (slots_at m i)) ∷ [])
+    slots-are : slots_at m₂ (suc i) ≡ slots_at m₂ i ++ (Some (written (kind_of s) p (slots_at m i)) ∷ [])
     unfolding slots_at
     slots-are =
         let z : taken_at m₂ i ≡ 0 = taken.marked.own ∙ put.untaken in
@@ -252,25 +252,25 @@ module _ (m s : List ℕ) (i : ℕ) (g : Good m) (top : i < 64) (p : Payload) (e
 
 module _ (m s : List ℕ) (i len : ℕ) (g : Good m) (top : i < 64) {parts : Parts}
     (ep : parts ≡ parts_of (policy_payload s)) where
-  the-payload : parts.fits ≡ true → (p : Payload) × (policy_payload s ≡ some p)
+  the-payload : parts.fits ≡ true → (p : Payload) × (policy_payload s ≡ Some p)
   the-payload f = fits-some (policy_payload s) (sym (ap (λ (x : Parts). x.fits) ep) ∙ f)
 
-  pub whole-unfit : (m₂ : List ℕ) → parts.fits ≡ false → Stepped (read_whole (slots_at m i) len s) Step.BadPolicy m₂ i
+  pub whole-unfit : (m₂ : List ℕ) → parts.fits ≡ false → Stepped (read_whole (slots_at m i) len s) (Err Refusal.BadPolicy) m₂ i
   unfolding read_whole
-  whole-unfit m₂ f = record { says = rw (unfit-none (policy_payload s) (sym (ap (λ (x : Parts). x.fits) ep) ∙ f)); good = tt }
+  whole-unfit m₂ f = record { says = rw (unfit-none (policy_payload s) (sym (ap (λ (x : Parts). x.fits) ep) ∙ f)); good = λ z. omega arith }
 
   module _ {kind : ℕ} {m₁ : List ℕ} (ek : kind ≡ kind_of s) (e₁ : m₁ ≡ put_row m i kind parts) (f : parts.fits ≡ true) where
     p : Payload
     p = (the-payload f).0
 
-    e : policy_payload s ≡ some p
+    e : policy_payload s ≡ Some p
     unfolding p
     e = (the-payload f).1
 
-    parts_are : parts ≡ parts_of (some p)
+    parts_are : parts ≡ parts_of (Some p)
     parts_are = ep ∙ ap parts_of e
 
-    row_is : m₁ ≡ put_row m i (kind_of s) (parts_of (some p))
+    row_is : m₁ ≡ put_row m i (kind_of s) (parts_of (Some p))
     row_is = e₁ ∙ ap (λ (k : ℕ). put_row m i k parts) ek ∙ ap (λ (x : Parts). put_row m i (kind_of s) x) parts_are
 
     counted_is : parts.count ≡ payload.count_of p
@@ -281,14 +281,14 @@ module _ (m s : List ℕ) (i len : ℕ) (g : Good m) (top : i < 64) {parts : Par
     whole_take = rw counted_is (take-ready m s i g top p e m₁ row_is)
 
     pub whole-missing : (m₂ : List ℕ) {r : Bool} → Took i parts.count m₁ m₂ r → r ≡ false
-        → Stepped (read_whole (slots_at m i) len s) Step.BadPolicy m₂ i
+        → Stepped (read_whole (slots_at m i) len s) (Err Refusal.BadPolicy) m₂ i
     unfolding read_whole n
     whole-missing m₂ t z =
-        let w : without (words_from m₁ (40 * i + 6) (payload.count_of p)) (slots_at m₁ i) ≡ none =
+        let w : without (words_from m₁ (40 * i + 6) (payload.count_of p)) (slots_at m₁ i) ≡ None =
         took-false i (payload.count_of p) m₁ m₂ (rw counted_is at t) z in
-        let missing : without (payload.children_of p) (slots_at m i) ≡ none =
+        let missing : without (payload.children_of p) (slots_at m i) ≡ None =
         rw (← words-put m s i g top p e m₁ row_is, ← slots-put m s i g top p e m₁ row_is) w in
-        record { says = rw (e, missing); good = tt }
+        record { says = rw (e, missing); good = λ z. omega arith }
 
     weighs_is : {b : Bool} → b ≡ (eqb kind 11 && (eqb parts.left_weight 0 || eqb parts.right_weight 0)) → b ≡ weighs_nothing (kind_of s) p
     weighs_is w =
@@ -301,14 +301,14 @@ module _ (m s : List ℕ) (i len : ℕ) (g : Good m) (top : i < 64) {parts : Par
       taken : TookAll i (payload.count_of p) m₁ m₂
       taken = took_true i (payload.count_of p) m₁ m₂ (rw counted_is at t) y
 
-      pub whole-zero : b ≡ true → Stepped (read_whole (slots_at m i) len s) Step.ZeroWeight m₂ i
+      pub whole-zero : b ≡ true → Stepped (read_whole (slots_at m i) len s) (Err Refusal.ZeroWeight) m₂ i
       unfolding read_whole n
       whole-zero q =
           let left = left_is m s i g top p e m₁ row_is m₂ taken in
           let z : weighs_nothing (kind_of s) p ≡ true = sym (weighs_is w) ∙ q in
-          record { says = rw (e, left, z); good = tt }
+          record { says = rw (e, left, z); good = λ z. omega arith }
 
-      pub whole-next : b ≡ false → Stepped (read_whole (slots_at m i) len s) (Step.Next len) m₂ i
+      pub whole-next : b ≡ false → Stepped (read_whole (slots_at m i) len s) (Ok len) m₂ i
       unfolding read_whole n
       whole-next q =
           let left = left_is m s i g top p e m₁ row_is m₂ taken in

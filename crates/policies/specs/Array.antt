@@ -3,8 +3,7 @@
 -- The array has 64 rows of 40 words, one for each record: the kind, the number, k, n, the two weights, sixteen children, whether a later
 -- record has taken it, and classes. A record's number is that of its row. The Ands that a Thresh with k = n folds to (document 01, "Forms
 -- that must change") take no row: number 64 + 16 i + t is the And over the first t + 2 children of record i. Assumes nothing.
-use Rattle.std.specs.Prelude.{cond, ◌&&◌, List, [], ◌∷◌, ◌++◌, map, ℕ, zero, suc, ◌+◌, ◌*◌, ◌-◌, ◌/◌, ◌%◌, ◌<◌, ◌≤◌, ◌≡◌, eqb, ltb, length, get_or, set}
-use Rattle.std.proofs.Math.Option.{Option, none, some}
+use Rattle.std.specs.Prelude.{cond, ◌&&◌, List, [], ◌∷◌, ◌++◌, map, ℕ, zero, suc, ◌+◌, ◌*◌, ◌-◌, ◌/◌, ◌%◌, ◌<◌, ◌≤◌, ◌≡◌, eqb, ltb, length, get_or, set, Option, None, Some}
 use Rattle.std.proofs.lemmas.List.Edits.{sets}
 use Rattle.policies.specs.Policy.{Policy, And}
 use Rattle.policies.specs.Forms.{made, nth, and_kind, or_kind, thresh_kind}
@@ -102,7 +101,7 @@ pub data Named (m : List ℕ) (r : ℕ) : Type 0 where
 
 -- the slots of the first n rows
 abbrev pub slot_at : List ℕ → ℕ → Option Policy
-slot_at m i = cond (eqb (taken_at m i) 0) (some (record_policy m i)) none
+slot_at m i = cond (eqb (taken_at m i) 0) (Some (record_policy m i)) None
 
 unfoldable pub slots_at : List ℕ → ℕ → Slots
 slots_at m zero = []

@@ -1,7 +1,6 @@
 -- When bytes are a policy, and which refusal they get: document 01, "Records" (children are smaller record numbers, each taken once, the
 -- last record is the root) and "Numbers the console shows" (3, 4 and 5, and the order of the checks). Assumes nothing.
-use Rattle.std.specs.Prelude.{Bool, true, false, cond, ◌&&◌, ◌||◌, List, [], ◌∷◌, ◌++◌, map, ℕ, zero, suc, eqb, leb, get_or, set, take, drop}
-use Rattle.std.proofs.Math.Option.{Option, none, some}
+use Rattle.std.specs.Prelude.{Bool, true, false, cond, ◌&&◌, ◌||◌, List, [], ◌∷◌, ◌++◌, map, ℕ, zero, suc, eqb, leb, get_or, set, take, drop, Option, None, Some}
 use Rattle.records.specs.Payloads as payload
 use Rattle.records.specs.Payloads.{Payload}
 use Rattle.records.specs.RecordForm.{record_length, kind_of, policy_payload}
@@ -39,8 +38,8 @@ refused n >>= next = refused n
 done a >>= next = next a
 
 abbrev pub or_refuse : {A : Type 0} → ℕ → Option A → Answer A
-or_refuse n (some a) = done a
-or_refuse n none = refused n
+or_refuse n (Some a) = done a
+or_refuse n None = refused n
 
 abbrev pub refuse_if : {A : Type 0} → ℕ → Bool → A → Answer A
 refuse_if n true a = refused n
@@ -51,20 +50,20 @@ abbrev pub Slots : Type 0
 Slots = List (Option Policy)
 
 abbrev pub slot : Slots → ℕ → Option Policy
-slot slots j = get_or slots j none
+slot slots j = get_or slots j None
 
 abbrev pub if_there : Option Policy → Option Slots → Option Slots
-if_there (some p) left = left
-if_there none left = none
+if_there (Some p) left = left
+if_there None left = None
 
 -- The slots without some children, taken from left to right; none where a child is not there, or is taken already.
 unfoldable pub without : List ℕ → Slots → Option Slots
-without [] slots = some slots
-without (j ∷ js) slots = if_there (slot slots j) (without js (set slots j none))
+without [] slots = Some slots
+without (j ∷ js) slots = if_there (slot slots j) (without js (set slots j None))
 
 abbrev pub the_policy : Option Policy → Policy
-the_policy (some p) = p
-the_policy none = Unsatisfiable
+the_policy (Some p) = p
+the_policy None = Unsatisfiable
 
 -- the policies in the slots of some children
 abbrev pub those : List ℕ → Slots → List Policy
@@ -89,7 +88,7 @@ unfoldable pub read_whole : Slots → (len : ℕ) → List ℕ → Answer Next
 read_whole slots len bytes = do
   p ← or_refuse bad_policy (policy_payload bytes)
   left ← or_refuse bad_policy (without (payload.children_of p) slots)
-  refuse_if zero_weight (weighs_nothing (kind_of bytes) p) (record { len = len; slots = left ++ (some (written (kind_of bytes) p slots) ∷ []) })
+  refuse_if zero_weight (weighs_nothing (kind_of bytes) p) (record { len = len; slots = left ++ (Some (written (kind_of bytes) p slots) ∷ []) })
 
 -- the first record of some bytes
 unfoldable pub read_record : Slots → List ℕ → Answer Next
@@ -99,10 +98,10 @@ read_record slots bytes = do
 
 -- the root: the last slot, every other being taken
 unfoldable pub root_of : Slots → Option Policy
-root_of [] = none
+root_of [] = None
 root_of (x ∷ []) = x
-root_of (none ∷ x ∷ slots) = root_of (x ∷ slots)
-root_of (some y ∷ x ∷ slots) = none
+root_of (None ∷ x ∷ slots) = root_of (x ∷ slots)
+root_of (Some y ∷ x ∷ slots) = None
 
 unfoldable pub finish : Slots → Answer Policy
 finish slots = do

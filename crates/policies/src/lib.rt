@@ -7,7 +7,7 @@
 // `proofs/Heaviest.antt`.
 #![tactic(auto)]
 
-ghost use Rattle.std.specs.Prelude.{◌≡◌, List, ◌<◌, ◌≤◌, max, ◌&&◌, ◌||◌, eqb, length, drop};
+ghost use Rattle.std.specs.Prelude.{◌≡◌, List, ◌<◌, ◌≤◌, ◌&&◌, ◌||◌, eqb, length, drop};
 ghost use Rattle.policies.specs.Policy.{Policy, depth, weight};
 ghost use Rattle.policies.specs.Forms.{made, or_kind};
 ghost use Rattle.policies.specs.Array.{max_children, row_words, array_words, arity, word_at, policy_at, slots_at, Rows, Good};
@@ -16,7 +16,8 @@ ghost use Rattle.policies.specs.Answers.{Took, put_row, Stepped, AllRead, Rooted
 ghost use Rattle.policies.specs.Reading.{max_records, max_weight, read_whole, read_record, read_policy, finish};
 ghost use Rattle.policies.specs.Heads.{head_of, leaf_head, pair_head};
 
-use records::{Parts, RecordLength};
+use records::Parts;
+use refusals::Refusal;
 
 // The most records that a policy has, the most children that a record has, and the greatest depth.
 const MAX_RECORDS: usize = 64;
@@ -84,6 +85,7 @@ fn pair(kind: u64, left_weight: u64, right_weight: u64) -> Head
 fn head_from(kind: u64, number: u64, k: u64, n: u64, left_weight: u64, right_weight: u64) -> Head
     ensures { (cs : List Policy) → length cs ≡ arity kind n → result ≡ head_of (made kind number k left_weight right_weight cs) }
 {
+    // A kind stays a number: a record or a node holds one, and the contract answers on every number.
     match kind {
         2..=2 => leaf(2, 0),
         3..=9 => leaf(kind, number),
@@ -170,29 +172,16 @@ pub fn folded_of(pol: &[u64], i: usize, n: usize) -> usize
     MAX_RECORDS + MAX_CHILDREN * i + (n - 2)
 }
 
-// The larger of two numbers.
-fn larger(a: usize, b: usize) -> usize
-    ensures { result ≡ max a b }
-{
-    if a < b {
-        return b;
-    }
-    a
-}
-
 // The depth of record i.
 pub fn depth(pol: &[u64], i: usize) -> usize
     requires { Good pol.now × (i < max_records) }
     ensures { result ≡ depth (policy_at pol.now i) }
 {
     let n = head_of(pol, i).count;
-    let mut deepest = 0;
-    let mut j = 0;
-    while j < n {
+    let mut deepest = 0usize;
+    for j in 0..n {
         let c = child(pol, i, j);
-        let d = depth(pol, c);
-        deepest = larger(deepest, d);
-        j += 1;
+        deepest = deepest.max(depth(pol, c));
     }
     deepest + 1
 }
@@ -206,43 +195,14 @@ pub fn weight(pol: &[u64], i: usize) -> u64
     let kind = head.kind;
     let n = head.count;
     let mut sum = 1;
-    let mut j = 0;
-    while j < n {
+    for j in 0..n {
         let c = child(pol, i, j);
         sum += weight(pol, c);
-        j += 1;
     }
     if kind == THRESH {
         return sum + 2 * n as u64;
     }
     sum
-}
-
-// What reading one record leaves: its length, or a refusal.
-#[derive(Clone, Copy)]
-pub enum Step {
-    Next(usize),
-    BadPolicy,
-    ZeroWeight,
-}
-
-// What reading all records leaves: how many there are, or a refusal.
-#[derive(Clone, Copy)]
-pub enum RecordsRead {
-    All(usize),
-    BadPolicy,
-    ZeroWeight,
-    PolicyTooLarge,
-}
-
-// What reading a policy answers: the number of its root, a refusal of document 01, or that the array lent is not of the one length.
-#[derive(Clone, Copy)]
-pub enum ReadPolicy {
-    Root(usize),
-    BadPolicy,
-    ZeroWeight,
-    PolicyTooLarge,
-    BadArray,
 }
 
 // Writes the head of row i, which no record has taken.
@@ -275,10 +235,8 @@ fn put_children(pol: &mut [u64], i: usize, children: [u16; 16])
     ensures { pol.new ≡ put_children pol.old i children }
 {
     let at = ROW_WORDS * i + FIRST_CHILD;
-    let mut j = 0;
-    while j < MAX_CHILDREN {
-        pol[at + j] = children[j] as u64;
-        j += 1;
+    for (j, child) in children.iter().enumerate() {
+        pol[at + j] = *child as u64;
     }
 }
 
@@ -287,8 +245,7 @@ fn take_children(pol: &mut [u64], i: usize, n: usize) -> bool
     requires { Rows pol.old × ((i < max_records) × (n ≤ max_children)) }
     ensures { Took i n pol.old pol.new result }
 {
-    let mut j = 0;
-    while j < n {
+    for j in 0..n {
         let c = word(pol, i, FIRST_CHILD + j) as usize;
         if i <= c {
             return false;
@@ -297,7 +254,6 @@ fn take_children(pol: &mut [u64], i: usize, n: usize) -> bool
             return false;
         }
         pol[ROW_WORDS * c + TAKEN] = 1;
-        j += 1;
     }
     true
 }
@@ -307,87 +263,74 @@ fn put_row(pol: &mut [u64], i: usize, kind: u16, parts: Parts)
     requires { (length pol.old ≡ array_words) × (i < max_records) }
     ensures { pol.new ≡ put_row pol.old i kind parts }
 {
-    let number = parts.number;
-    let k = parts.k as u64;
-    let n = parts.count as u64;
-    let left_weight = parts.left_weight as u64;
-    let right_weight = parts.right_weight as u64;
-    let children = parts.children;
-    put_head(pol, i, kind as u64, number, k, n, left_weight, right_weight);
-    put_children(pol, i, children);
+    put_head(
+        pol,
+        i,
+        kind as u64,
+        parts.number,
+        parts.k as u64,
+        parts.count as u64,
+        parts.left_weight as u64,
+        parts.right_weight as u64,
+    );
+    put_children(pol, i, parts.children);
 }
 
 // Whether either weight of an Or is 0.
 fn weighs_nothing(kind: u16, left_weight: u32, right_weight: u32) -> bool
     ensures { result ≡ (eqb kind or_kind && (eqb left_weight 0 || eqb right_weight 0)) }
 {
-    if kind == OR {
-        if left_weight == 0 {
-            return true;
-        }
-        return right_weight == 0;
-    }
-    false
+    kind == OR && (left_weight == 0 || right_weight == 0)
 }
 
 // Reads one whole record, whose number is i.
-fn read_whole(whole: &[u8], pol: &mut [u64], i: usize) -> Step
+fn read_whole(whole: &[u8], pol: &mut [u64], i: usize) -> Result<usize, Refusal>
     requires { Good pol.old × (i < max_records) }
     ensures { Stepped (read_whole (slots_at pol.old i) (length whole.now) whole.now) result pol.new i }
 {
     let parts = records::policy_parts(whole);
-    let fits = parts.fits;
-    if !fits {
-        return Step::BadPolicy;
+    if !parts.fits {
+        return Err(Refusal::BadPolicy);
     }
     let kind = records::kind_of(whole);
     put_row(pol, i, kind, parts);
-    let n = parts.count;
-    if !take_children(pol, i, n) {
-        return Step::BadPolicy;
+    if !take_children(pol, i, parts.count) {
+        return Err(Refusal::BadPolicy);
     }
     if weighs_nothing(kind, parts.left_weight, parts.right_weight) {
-        return Step::ZeroWeight;
+        return Err(Refusal::ZeroWeight);
     }
-    Step::Next(whole.len())
+    Ok(whole.len())
 }
 
 // Reads the record that begins at `at`, whose number is i.
-fn read_record(bytes: &[u8], at: usize, pol: &mut [u64], i: usize) -> Step
+fn read_record(bytes: &[u8], at: usize, pol: &mut [u64], i: usize) -> Result<usize, Refusal>
     requires { Good pol.old × ((i < max_records) × (at ≤ length bytes.now)) }
     ensures { Stepped (read_record (slots_at pol.old i) (drop at bytes.now)) result pol.new i }
 {
-    match records::length_at(bytes, at) {
-        RecordLength::Broken => Step::BadPolicy,
-        RecordLength::Whole(len) => read_whole(&bytes[at..at + len], pol, i),
-    }
+    let Some(len) = records::length_at(bytes, at) else {
+        return Err(Refusal::BadPolicy);
+    };
+    read_whole(&bytes[at..at + len], pol, i)
 }
 
 // Reads all records, from the first on.
-fn read_records(bytes: &[u8], pol: &mut [u64]) -> RecordsRead
+fn read_records(bytes: &[u8], pol: &mut [u64]) -> Result<usize, Refusal>
     requires { Good pol.old }
     ensures { AllRead (read_policy bytes.now) result pol.new }
 {
     let mut at = 0;
     let mut i = 0;
+    // A `while`, since records are of unequal length.
     while at < bytes.len() {
         if i == MAX_RECORDS {
-            return RecordsRead::PolicyTooLarge;
+            return Err(Refusal::PolicyTooLarge);
         }
-        match read_record(bytes, at, pol, i) {
-            Step::BadPolicy => {
-                return RecordsRead::BadPolicy;
-            }
-            Step::ZeroWeight => {
-                return RecordsRead::ZeroWeight;
-            }
-            Step::Next(len) => {
-                at += len;
-            }
-        }
+        let len = read_record(bytes, at, pol, i)?;
+        at += len;
         i += 1;
     }
-    RecordsRead::All(i)
+    Ok(i)
 }
 
 // Whether the last of the rows is taken by no record, and every other by one.
@@ -395,46 +338,40 @@ fn one_root(pol: &[u64], last: usize) -> bool
     requires { last < max_records }
     ensures { Rooted pol.now last result }
 {
-    let mut i = 0;
-    while i < last {
+    for i in 0..last {
         if word(pol, i, TAKEN) == 0 {
             return false;
         }
-        i += 1;
     }
     word(pol, last, TAKEN) == 0
 }
 
 // The policy of so many records, its depth being the last thing to check.
-fn finish(pol: &[u64], count: usize) -> ReadPolicy
+fn finish(pol: &[u64], count: usize) -> Result<usize, Refusal>
     requires { Good pol.now × (count ≤ max_records) }
     ensures { Read (finish (slots_at pol.now count)) result pol.now }
 {
     if count == 0 {
-        return ReadPolicy::BadPolicy;
+        return Err(Refusal::BadPolicy);
     }
     let last = count - 1;
     if !one_root(pol, last) {
-        return ReadPolicy::BadPolicy;
+        return Err(Refusal::BadPolicy);
     }
     if MAX_DEPTH < depth(pol, last) {
-        return ReadPolicy::PolicyTooLarge;
+        return Err(Refusal::PolicyTooLarge);
     }
-    ReadPolicy::Root(last)
+    Ok(last)
 }
 
 // Reads a policy into the array that is lent.
-pub fn read_policy(bytes: &[u8], pol: &mut [u64]) -> ReadPolicy
+pub fn read_policy(bytes: &[u8], pol: &mut [u64]) -> Result<usize, Refusal>
     ensures { PolicyRead bytes.now pol.old result pol.new }
 {
     if pol.len() != ARRAY_WORDS {
-        return ReadPolicy::BadArray;
+        return Err(Refusal::BadWork);
     }
     words::clear(pol);
-    match read_records(bytes, pol) {
-        RecordsRead::BadPolicy => ReadPolicy::BadPolicy,
-        RecordsRead::ZeroWeight => ReadPolicy::ZeroWeight,
-        RecordsRead::PolicyTooLarge => ReadPolicy::PolicyTooLarge,
-        RecordsRead::All(count) => finish(pol, count),
-    }
+    let count = read_records(bytes, pol)?;
+    finish(pol, count)
 }

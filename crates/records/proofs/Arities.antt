@@ -2,7 +2,7 @@
 use Prim.Native.Nat.{ℕ, suc, ◌-◌, ◌≤◌, ◌<◌}
 use mathlib.Core.Bool.{Bool, true, false}
 use mathlib.Core.List.{List, [], ◌∷◌}
-use mathlib.Core.Option.{none, some}
+use Rattle.std.specs.Prelude.{None, Some}
 use mathlib.Core.Path.{◌≡◌, refl, sym, ap, ◌∙◌}
 use native.Mathlib.Omega.{arith}
 use borrow.Author.Tests.{le-leb, lt-leb, leb-true, leb-false, ne_eqb}
@@ -57,9 +57,9 @@ pub record Counts (kind : ℕ) (p : Payload) : Type 0 where
   pub few : count_of p ≤ 16
   pub own : arity kind (count_of p) ≡ length (children_of p)
 
-module _ (s : List ℕ) (p : Payload) (e : fragment_payload s ≡ some p) where
-  of-shape : (low high : ℕ) {shape : Shape} → look_up_range rows low high ≡ some (some shape) → low ≤ kind_of s → kind_of s ≤ high
-      → payload_of shape s ≡ some p
+module _ (s : List ℕ) (p : Payload) (e : fragment_payload s ≡ Some p) where
+  of-shape : (low high : ℕ) {shape : Shape} → look_up_range rows low high ≡ Some (Some shape) → low ≤ kind_of s → kind_of s ≤ high
+      → payload_of shape s ≡ Some p
   of-shape low high t l h = sym (of-fragment s (fragment-record s e).0 (shapes-in low high t (kind_of s) l h)) ∙ e
 
   -- p is known, so its number of children is
@@ -77,16 +77,16 @@ module _ (s : List ℕ) (p : Payload) (e : fragment_payload s ≡ some p) where
   no-child q e z z' h =
       as_is q e first_kind last-kind (omega arith) (sym (arity-below (kind_of s) (count_of q) h) ∙ sym z')
 
-  of-threshold : kind_of s ≡ 56 → payload_of Shape.Threshold s ≡ some p → Counts (kind_of s) p
+  of-threshold : kind_of s ≡ 56 → payload_of Shape.Threshold s ≡ Some p → Counts (kind_of s) p
   of-threshold k t =
       let is = is-threshold s t in
-      let few = (threshold-bounds s (t ∙ ap some is)).2 in
+      let few = (threshold-bounds s (t ∙ ap Some is)).2 in
       as_is (threshold (u16 s 4) (u16s s 8 (u16 s 6))) is first_kind last-kind (omega (arith, few)) (rw k (omega arith))
 
-  of-keys : 56 < kind_of s → payload_of Shape.Keys s ≡ some p → Counts (kind_of s) p
+  of-keys : 56 < kind_of s → payload_of Shape.Keys s ≡ Some p → Counts (kind_of s) p
   of-keys h t =
       let is = is-keys s t in
-      let few = (keys-bounds s (t ∙ ap some is)).2 in
+      let few = (keys-bounds s (t ∙ ap Some is)).2 in
       let q = keys (u16 s 4) (keys_in s) in
       as_is q is first_kind last-kind (omega (arith, few)) (sym (arity-above (kind_of s) (count_of q) h))
 
@@ -164,8 +164,8 @@ padded-front cs = take-append_seam cs (replicate (max_count - length cs) 0)
 -- a record of the form: its payload, its parts, its kind and the number of its children
 pub record Found (s : List ℕ) (parts : Parts) (kind n : ℕ) : Type 0 where
   pub payload : Payload
-  pub fits : fragment_payload s ≡ some payload
-  pub parts_are : parts ≡ parts_of (some payload)
+  pub fits : fragment_payload s ≡ Some payload
+  pub parts_are : parts ≡ parts_of (Some payload)
   pub kind-is : kind ≡ kind_of s
   pub n-is : n ≡ arity kind parts.count
 
@@ -175,7 +175,7 @@ found s e f k a =
     let is = fits-some (fragment_payload s) (sym (ap (λ (x : Parts). x.fits) e) ∙ f) in
     record { payload = is.0; fits = is.1; parts_are = e ∙ ap parts_of is.1; kind-is = k; n-is = a }
 
-pub not_found : (s : List ℕ) {parts : Parts} → parts ≡ parts_of (fragment_payload s) → parts.fits ≡ false → fragment_payload s ≡ none
+pub not_found : (s : List ℕ) {parts : Parts} → parts ≡ parts_of (fragment_payload s) → parts.fits ≡ false → fragment_payload s ≡ None
 not_found s e f = unfit-none (fragment_payload s) (sym (ap (λ (x : Parts). x.fits) e) ∙ f)
 
 module _ {s : List ℕ} {parts : Parts} {kind n : ℕ} (x : Found s parts kind n) where

@@ -2,7 +2,7 @@
 use mathlib.Core.Path.{◌≡◌, refl, sym, ap}
 use mathlib.Core.Bool.{Bool, true, false}
 use mathlib.Core.List.{List, [], ◌∷◌, ◌++◌}
-use mathlib.Core.Option.{Option, none, some}
+use Rattle.std.specs.Prelude.{Option, None, Some}
 use Prim.Native.Nat.{ℕ, zero, suc, ◌+◌, ◌*◌, ◌-◌, ◌<◌, ◌≤◌}
 use native.Mathlib.Numerals.{add-one}
 use native.Mathlib.Omega.{arith}
@@ -34,8 +34,8 @@ pub u16-room : (s : List ℕ) (at : ℕ) → 1 ≤ u16 s at → at + 2 ≤ lengt
 u16-room s at h = by_read (le_at 2 s at) refl h
   where
     by_read : (o : Option ℕ) → le_at 2 s at ≡ o → 1 ≤ or_zero o → at + 2 ≤ length s
-    by_read (some v) e h = read-room 2 s at e
-    by_read none e h = absurd (omega arith)
+    by_read (Some v) e h = read-room 2 s at e
+    by_read None e h = absurd (omega arith)
 
 -- ---- numbers in a row
 

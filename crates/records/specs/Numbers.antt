@@ -1,6 +1,5 @@
 -- The numbers that stand in a record, and their limits: document 01, "Records", and document 02, R-3. Assumes nothing.
-use Rattle.std.specs.Prelude.{Bool, ◌&&◌, List, [], ◌∷◌, ℕ, zero, suc, ◌+◌, leb}
-use Rattle.std.proofs.Math.Option.{Option, none, some}
+use Rattle.std.specs.Prelude.{Bool, ◌&&◌, List, [], ◌∷◌, ℕ, zero, suc, ◌+◌, leb, Option, None, Some}
 use Rattle.words.specs.Bytes.{le_at}
 
 -- a lock holds 1 to 2,147,483,647
@@ -12,8 +11,8 @@ abbrev pub max_count : ℕ
 max_count = 16
 
 abbrev pub or_zero : Option ℕ → ℕ
-or_zero (some v) = v
-or_zero none = 0
+or_zero (Some v) = v
+or_zero None = 0
 
 -- the number of so many bytes that begins at a byte, 0 where its bytes are not there; a u16, a u32 and a u64
 abbrev pub number_at : (width : ℕ) → List ℕ → ℕ → ℕ

@@ -1,8 +1,7 @@
 -- What a record's payload says, and when it is of its shape: document 01, "Records", the paragraph on payloads; keys of 64 bits: document
 -- 02, R-3.
 -- A payload begins at byte 4 of its record, after the whole length and the kind. Assumes nothing.
-use Rattle.std.specs.Prelude.{Bool, true, false, cond, ◌&&◌, List, [], ◌∷◌, ℕ, ◌+◌, ◌*◌, ◌-◌, eqb, leb, length}
-use Rattle.std.proofs.Math.Option.{Option, none, some}
+use Rattle.std.specs.Prelude.{Bool, true, false, cond, ◌&&◌, List, [], ◌∷◌, ℕ, ◌+◌, ◌*◌, ◌-◌, eqb, leb, length, Option, None, Some}
 use Rattle.records.specs.Numbers.{number_at, u16, u32, u16s, numbers_at, between, max_lock, max_count}
 use Rattle.records.specs.Shapes.{is_long}
 use Rattle.records.specs.declared.Shape.{Shape}
@@ -53,8 +52,8 @@ keys_in s = first_keys s (count_in s)
 -- ---- the payload
 
 abbrev pub when : Bool → Payload → Option Payload
-when true p = some p
-when false p = none
+when true p = Some p
+when false p = None
 
 -- whether a record is k, n and then n numbers of so many bytes, with 1 ≤ k ≤ n ≤ 16
 abbrev pub threshold_fits : (width : ℕ) → List ℕ → Bool

@@ -1,14 +1,13 @@
 -- A record in a list of bytes: document 01, "Records". It is its whole length (u16), a kind (u16), then the payload. Assumes nothing.
-use Rattle.std.specs.Prelude.{Bool, true, false, List, ℕ, length}
-use Rattle.std.proofs.Math.Option.{Option, none, some}
+use Rattle.std.specs.Prelude.{Bool, true, false, List, ℕ, length, Option, None, Some}
 use Rattle.records.specs.Numbers.{u16, between}
 use Rattle.records.specs.Shapes.{meant, shape_of, is_policy_kind, is_fragment_kind}
 use Rattle.records.specs.Payloads.{Payload, written_kind, payload_of}
 use Rattle.records.specs.declared.Shape.{Shape}
 
 abbrev pub when_whole : Bool → ℕ → Option ℕ
-when_whole true n = some n
-when_whole false n = none
+when_whole true n = Some n
+when_whole false n = None
 
 -- the whole length of the record that some bytes begin with, if it has room for length and kind and that many bytes are there
 abbrev pub record_length : List ℕ → Option ℕ
@@ -21,12 +20,12 @@ unfoldable pub kind_of : List ℕ → ℕ
 kind_of s = meant (written_kind s)
 
 abbrev pub payload_as : Option Shape → List ℕ → Option Payload
-payload_as (some shape) s = payload_of shape s
-payload_as none s = none
+payload_as (Some shape) s = payload_of shape s
+payload_as None s = None
 
 abbrev pub only_if : Bool → Option Payload → Option Payload
 only_if true p = p
-only_if false p = none
+only_if false p = None
 
 -- the payload of a record, if it is of the form; in a policy and in a fragment tree the kind is one of theirs
 abbrev pub record_payload : List ℕ → Option Payload

@@ -1,7 +1,6 @@
 -- Which kinds there are and what payload each has: document 01, "Records", its lists of kinds and its paragraph on payloads; the kinds of
 -- keys of 64 bits: document 02, R-3. Assumes nothing.
-use Rattle.std.specs.Prelude.{Bool, true, false, cond, ◌||◌, List, [], ◌∷◌, ℕ, ◌-◌, eqb}
-use Rattle.std.proofs.Math.Option.{Option, none, some}
+use Rattle.std.specs.Prelude.{Bool, true, false, cond, ◌||◌, List, [], ◌∷◌, ℕ, ◌-◌, eqb, Option, None, Some}
 use Rattle.records.specs.Numbers.{between}
 use Rattle.records.specs.declared.Shape.{Shape}
 
@@ -31,11 +30,11 @@ rows =
     ∷ []
 
 abbrev pub this_or : Bool → Shape → Option Shape → Option Shape
-this_or true shape others = some shape
+this_or true shape others = Some shape
 this_or false shape others = others
 
 unfoldable pub look_up : List Row → ℕ → Option Shape
-look_up [] kind = none
+look_up [] kind = None
 look_up (kinds first last shape ∷ others) kind = this_or (between first last kind) shape (look_up others kind)
 
 -- the shape of a kind's payload; a number that is no kind has none

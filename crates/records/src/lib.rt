@@ -6,16 +6,13 @@
 // A `bytes` that a function takes is the bytes of one whole record.
 #![tactic(auto)]
 
-ghost use Rattle.std.specs.Prelude.{◌≡◌, ◌≤◌, ◌<◌, drop};
-ghost use Rattle.std.proofs.Math.Option.{none, some};
+ghost use Rattle.std.specs.Prelude.{◌≡◌, ◌≤◌, ◌<◌, drop, None, Some};
 ghost use Rattle.records.specs.Numbers.{number_at, u16, u32, u64, u16s, max_count};
 ghost use Rattle.records.specs.Shapes.{is_long, meant, shape_of, is_policy_kind, is_fragment_kind, arity};
 ghost use Rattle.records.specs.Payloads as Payload;
 ghost use Rattle.records.specs.Payloads.{payload_of, children_payload, threshold_fits, written_kind, width, number_in, k_in, count_in, key_at};
 ghost use Rattle.records.specs.RecordForm.{record_length, kind_of, record_payload, policy_payload, fragment_payload};
-ghost use Rattle.records.specs.Answers.{length_answer, shape_answer, padded, parts_of};
-
-use words::{Read16, Read32, Read64};
+ghost use Rattle.records.specs.Answers.{padded, parts_of};
 
 // The largest number that a lock holds.
 const MAX_LOCK: u64 = 2147483647;
@@ -37,20 +34,6 @@ pub enum Shape {
     Keys,
 }
 
-// Whether a number is a kind, and the shape of its payload.
-#[derive(Clone, Copy)]
-pub enum KindShape {
-    Known(Shape),
-    Unknown,
-}
-
-// The whole length of a record.
-#[derive(Clone, Copy)]
-pub enum RecordLength {
-    Whole(usize),
-    Broken,
-}
-
 // Whether a record is of the form, and the parts of its payload: 0 where it has none, and where it is not of the form.
 // `count` is the number of children or keys, and `children` has zeros past the children; keys stay in the record.
 #[derive(Clone, Copy)]
@@ -68,44 +51,35 @@ pub struct Parts {
 pub fn u16_or_zero(s: &[u8], at: usize) -> u16
     ensures { result ≡ u16 s.now at }
 {
-    match words::u16_at(s, at) {
-        Read16::Found(v) => v,
-        Read16::Missing => 0,
-    }
+    words::u16_at(s, at).unwrap_or(0)
 }
 
 // The u32 at `at`, 0 where its bytes are not there.
 pub fn u32_or_zero(s: &[u8], at: usize) -> u32
     ensures { result ≡ u32 s.now at }
 {
-    match words::u32_at(s, at) {
-        Read32::Found(v) => v,
-        Read32::Missing => 0,
-    }
+    words::u32_at(s, at).unwrap_or(0)
 }
 
 // The u64 at `at`, 0 where its bytes are not there.
 pub fn u64_or_zero(s: &[u8], at: usize) -> u64
     ensures { result ≡ u64 s.now at }
 {
-    match words::u64_at(s, at) {
-        Read64::Found(v) => v,
-        Read64::Missing => 0,
-    }
+    words::u64_at(s, at).unwrap_or(0)
 }
 
 // The whole length of the record that begins at `at`.
-pub fn length_at(s: &[u8], at: usize) -> RecordLength
-    ensures { result ≡ length_answer (record_length (drop at s.now)) }
+pub fn length_at(s: &[u8], at: usize) -> Option<usize>
+    ensures { result ≡ record_length (drop at s.now) }
 {
     let whole = u16_or_zero(s, at) as usize;
     if whole < 4 {
-        return RecordLength::Broken;
+        return None;
     }
     if s.len() - at < whole {
-        return RecordLength::Broken;
+        return None;
     }
-    RecordLength::Whole(whole)
+    Some(whole)
 }
 
 // The kind's number as it is written in a record.
@@ -119,6 +93,7 @@ pub fn written_kind(bytes: &[u8]) -> u16
 fn is_long(kind: u16) -> bool
     ensures { result ≡ is_long kind }
 {
+    // A kind stays a number: a record or a node holds one, and the contract answers on every number.
     match kind {
         // Key.
         19 => true,
@@ -134,6 +109,7 @@ fn is_long(kind: u16) -> bool
 fn meant(kind: u16) -> u16
     ensures { result ≡ meant kind }
 {
+    // A kind stays a number: a record or a node holds one, and the contract answers on every number.
     match kind {
         // Key.
         19 => 3,
@@ -174,40 +150,41 @@ fn number_at(bytes: &[u8], at: usize) -> u64
 }
 
 // The shape of a kind's payload.
-pub fn shape_of(kind: u16) -> KindShape
-    ensures { result ≡ shape_answer (shape_of kind) }
+pub fn shape_of(kind: u16) -> Option<Shape>
+    ensures { result ≡ shape_of kind }
 {
+    // A kind stays a number: a record or a node holds one, and the contract answers on every number.
     match kind {
         // Unsatisfiable, Trivial.
-        1..=2 => KindShape::Known(Shape::Nothing),
+        1..=2 => Some(Shape::Nothing),
         // Key.
-        3 => KindShape::Known(Shape::Number),
+        3 => Some(Shape::Number),
         // After, Older.
-        4..=5 => KindShape::Known(Shape::Lock),
+        4..=5 => Some(Shape::Lock),
         // Sha256, Hash256, Ripemd160, Hash160.
-        6..=9 => KindShape::Known(Shape::Number),
+        6..=9 => Some(Shape::Number),
         // And, Or, Thresh.
-        10 => KindShape::Known(Shape::TwoChildren),
-        11 => KindShape::Known(Shape::Weighted),
-        12 => KindShape::Known(Shape::Threshold),
+        10 => Some(Shape::TwoChildren),
+        11 => Some(Shape::Weighted),
+        12 => Some(Shape::Threshold),
         // False, True.
-        32..=33 => KindShape::Known(Shape::Nothing),
+        32..=33 => Some(Shape::Nothing),
         // PkK, PkH.
-        34..=35 => KindShape::Known(Shape::Number),
+        34..=35 => Some(Shape::Number),
         // After, Older.
-        36..=37 => KindShape::Known(Shape::Lock),
+        36..=37 => Some(Shape::Lock),
         // Sha256, Hash256, Ripemd160, Hash160.
-        38..=41 => KindShape::Known(Shape::Number),
+        38..=41 => Some(Shape::Number),
         // Alt, Swap, Check, DupIf, Verify, NonZero, ZeroNotEqual.
-        42..=48 => KindShape::Known(Shape::OneChild),
+        42..=48 => Some(Shape::OneChild),
         // AndB, AndV, OrB, OrD, OrC, OrI.
-        49..=54 => KindShape::Known(Shape::TwoChildren),
+        49..=54 => Some(Shape::TwoChildren),
         // AndOr, Thresh.
-        55 => KindShape::Known(Shape::ThreeChildren),
-        56 => KindShape::Known(Shape::Threshold),
+        55 => Some(Shape::ThreeChildren),
+        56 => Some(Shape::Threshold),
         // Multi, MultiA.
-        57..=58 => KindShape::Known(Shape::Keys),
-        _ => KindShape::Unknown,
+        57..=58 => Some(Shape::Keys),
+        _ => None,
     }
 }
 
@@ -229,6 +206,7 @@ pub fn is_fragment_kind(kind: u16) -> bool
 pub fn arity(kind: u16, count: usize) -> usize
     ensures { result ≡ arity kind count }
 {
+    // A kind stays a number: a record or a node holds one, and the contract answers on every number.
     match kind {
         // Alt, Swap, Check, DupIf, Verify, NonZero, ZeroNotEqual.
         42..=48 => 1,
@@ -273,7 +251,7 @@ pub fn key_at(bytes: &[u8], j: u16) -> u64
 
 // The answer for a record that is not of the form.
 fn unfit() -> Parts
-    ensures { result ≡ parts_of none }
+    ensures { result ≡ parts_of None }
 {
     Parts {
         fits: false,
@@ -288,7 +266,7 @@ fn unfit() -> Parts
 
 // The answer for a record of the form, before the parts of its payload are set.
 fn fitting() -> Parts
-    ensures { result ≡ parts_of (some Payload.nothing) }
+    ensures { result ≡ parts_of (Some Payload.nothing) }
 {
     Parts {
         fits: true,
@@ -307,10 +285,8 @@ fn children_at(bytes: &[u8], at: usize, count: usize) -> [u16; 16]
     ensures { result ≡ padded (u16s bytes.now at count) }
 {
     let mut children = [0; 16];
-    let mut i = 0;
-    while i < count {
+    for i in 0..count {
         children[i] = u16_or_zero(bytes, at + 2 * i);
-        i += 1;
     }
     children
 }
@@ -457,8 +433,8 @@ pub fn record_parts(bytes: &[u8]) -> Parts
     ensures { result ≡ parts_of (record_payload bytes.now) }
 {
     match shape_of(kind_of(bytes)) {
-        KindShape::Known(shape) => parts_of(shape, bytes),
-        KindShape::Unknown => unfit(),
+        Some(shape) => parts_of(shape, bytes),
+        None => unfit(),
     }
 }
 

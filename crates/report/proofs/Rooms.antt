@@ -1,6 +1,6 @@
 -- A record lies in its tree. Assumes nothing.
 use Rattle.std.proofs.Common.{◌≡◌, ℕ, zero, suc, ◌+◌, ◌≤◌, List, length, drop, refl, ap, ◌∙◌, arith}
-use mathlib.Core.Option.{Option, none, some}
+use Rattle.std.specs.Prelude.{Option, None, Some}
 use Rattle.walk.specs.TreeRecords.{length_from, start_of}
 use Rattle.records.specs.RecordForm.{record_length}
 use Rattle.records.proofs.Laws.{whole_room}
@@ -22,10 +22,10 @@ end-within : (tree : List ℕ) (at : ℕ) → at ≤ length tree → at + length
 end-within tree at within = by_length (record_length (drop at tree)) refl
   where
     by_length : (o : Option ℕ) → record_length (drop at tree) ≡ o → at + length_from tree at ≤ length tree
-    by_length (some n) e =
+    by_length (Some n) e =
         let is-n : length_from tree at ≡ n = rw e in
         omega (arith, is-n, whole_room tree at e)
-    by_length none e =
+    by_length None e =
         let is-0 : length_from tree at ≡ 0 = rw e in
         omega (arith, is-0, within)
 

@@ -1,20 +1,13 @@
 // A cost as a number, on standard output: whole bytes and six decimals, cut, or with a power of ten where it is 2^64 or more.
 use std::io;
 
-// The whole part of a number from 0 up to 2^64.
-#[derive(Clone, Copy)]
-enum Whole {
-    Is(u64),
-    Other,
-}
-
-fn whole_of(x: f64) -> Whole {
+fn whole_of(x: f64) -> Option<u64> {
     if x > -1.0 {
         if x < 18446744073709551616.0 {
-            return Whole::Is(std::num::truncating_f64_to_u64(x));
+            return Some(std::num::truncating_f64_to_u64(x));
         }
     }
-    Whole::Other
+    None
 }
 
 // Writes a point and six digits.
@@ -28,8 +21,8 @@ fn say_parts(rt: &impl Print, whole: u64, x: f64) -> io::Result<()> {
     let rest = x - std::num::nearest_u64_to_f64(whole);
     print!(rt; "{whole}")?;
     match whole_of(rest * 1000000.0) {
-        Whole::Is(n) => say_millionths(rt, n),
-        Whole::Other => Ok(()),
+        Some(n) => say_millionths(rt, n),
+        None => Ok(()),
     }
 }
 
@@ -37,6 +30,7 @@ fn say_parts(rt: &impl Print, whole: u64, x: f64) -> io::Result<()> {
 fn say_large(rt: &impl Print, x: f64) -> io::Result<()> {
     let mut y = x;
     let mut power: u64 = 0;
+    // A `while`, since the power is written after it.
     while power < 400 {
         if y < 10.0 {
             break;
@@ -45,11 +39,11 @@ fn say_large(rt: &impl Print, x: f64) -> io::Result<()> {
         power += 1;
     }
     match whole_of(y) {
-        Whole::Is(n) => {
+        Some(n) => {
             say_parts(rt, n, y)?;
             print!(rt; "e{power}")
         }
-        Whole::Other => Ok(()),
+        None => Ok(()),
     }
 }
 
@@ -58,7 +52,7 @@ pub fn say_amount(rt: &impl Print, bits: u64) -> io::Result<()> {
     let x = words::float_of_word(bits);
     print!(rt; " ")?;
     match whole_of(x) {
-        Whole::Is(n) => say_parts(rt, n, x),
-        Whole::Other => say_large(rt, x),
+        Some(n) => say_parts(rt, n, x),
+        None => say_large(rt, x),
     }
 }

@@ -14,10 +14,8 @@ fn record_start(tree: &[u8], i: usize) -> usize
     ensures { result ≡ start_of tree.now i }
 {
     let mut at = 0;
-    let mut n = 0;
-    while n < i {
+    for n in 0..i {
         at = walk::record_end(tree, at);
-        n += 1;
     }
     at
 }

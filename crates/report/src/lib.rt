@@ -5,19 +5,18 @@
 #![tactic(auto)]
 
 use names::{answer_name, close_up, correctness_letters, kind_name, malleability_letters};
-use records::{KindShape, Parts, RecordLength, Shape};
+use records::{Parts, Shape};
 use std::io;
-use types::{Type, Unpacked};
+use types::Type;
 
 mod amounts;
 mod differences;
 
-// A tree that a refusal is about, of two, or none of them.
+// A tree that a refusal is about, of two.
 #[derive(Clone, Copy)]
 pub enum Side {
     Left,
     Right,
-    Neither,
 }
 
 // Writes a text.
@@ -51,7 +50,7 @@ pub fn show_number(rt: &impl Print, number: u32) -> io::Result<()> {
     say(rt, b"\n")
 }
 
-// The line that says what a refusal means.
+// The line that says what a refusal means. The entries give their refusals as numbers.
 fn show_meaning(rt: &impl Print, number: u32) -> io::Result<()> {
     match number {
         1 => say(
@@ -125,11 +124,11 @@ fn show_later_meaning(rt: &impl Print, number: u32) -> io::Result<()> {
 }
 
 // The line that says which of two trees a refusal is about, if it is about one.
-fn show_side(rt: &impl Print, side: Side) -> io::Result<()> {
+fn show_side(rt: &impl Print, side: Option<Side>) -> io::Result<()> {
     match side {
-        Side::Left => say(rt, b"the left tree is refused\n"),
-        Side::Right => say(rt, b"the right tree is refused\n"),
-        Side::Neither => Ok(()),
+        Some(Side::Left) => say(rt, b"the left tree is refused\n"),
+        Some(Side::Right) => say(rt, b"the right tree is refused\n"),
+        None => Ok(()),
     }
 }
 
@@ -168,20 +167,16 @@ fn show_type(rt: &impl Print, t: Type) -> io::Result<()> {
 
 // The first `count` of a record's children.
 fn show_children(rt: &impl Print, children: [u16; 16], count: usize) -> io::Result<()> {
-    for i in 0..16 {
-        if i < count {
-            say_number(rt, children[i] as u64)?;
-        }
+    for child in &children[..count.min(16)] {
+        say_number(rt, *child as u64)?;
     }
     Ok(())
 }
 
 // The first `count` of a record's keys.
 fn show_keys(rt: &impl Print, bytes: &[u8], count: usize) -> io::Result<()> {
-    for i in 0..16u16 {
-        if (i as usize) < count {
-            say_number(rt, records::key_at(bytes, i))?;
-        }
+    for i in 0..count.min(16) {
+        say_number(rt, records::key_at(bytes, i as u16))?;
     }
     Ok(())
 }
@@ -198,12 +193,10 @@ fn show_parts(rt: &impl Print, shape: Shape, bytes: &[u8]) -> io::Result<()> {
     let children = parts.children;
     match shape {
         Shape::Nothing => Ok(()),
-        Shape::Number => say_number(rt, parts.number),
-        Shape::Lock => say_number(rt, parts.number),
-        Shape::OneChild => show_children(rt, children, parts.count),
-        Shape::TwoChildren => show_children(rt, children, parts.count),
-        Shape::ThreeChildren => show_children(rt, children, parts.count),
-        Shape::Weighted => show_children(rt, children, parts.count),
+        Shape::Number | Shape::Lock => say_number(rt, parts.number),
+        Shape::OneChild | Shape::TwoChildren | Shape::ThreeChildren | Shape::Weighted => {
+            show_children(rt, children, parts.count)
+        }
         Shape::Threshold => {
             show_k_and_n(rt, parts)?;
             show_children(rt, children, parts.count)
@@ -218,8 +211,8 @@ fn show_parts(rt: &impl Print, shape: Shape, bytes: &[u8]) -> io::Result<()> {
 // The numbers of a record of a kind.
 fn show_payload(rt: &impl Print, kind: u16, bytes: &[u8]) -> io::Result<()> {
     match records::shape_of(kind) {
-        KindShape::Known(shape) => show_parts(rt, shape, bytes),
-        KindShape::Unknown => Ok(()),
+        Some(shape) => show_parts(rt, shape, bytes),
+        None => Ok(()),
     }
 }
 
@@ -240,10 +233,11 @@ fn show_record(rt: &impl Print, number: usize, bytes: &[u8]) -> io::Result<()> {
 
 // A line for each record of a tree, in order.
 fn show_tree(rt: &impl Print, tree: &[u8]) -> io::Result<()> {
+    // Records differ in length: each begins where the one before it ends.
     let mut number = 0;
     let mut at = 0;
     while at < tree.len() {
-        let RecordLength::Whole(n) = records::length_at(tree, at) else {
+        let Some(n) = records::length_at(tree, at) else {
             return Ok(());
         };
         show_record(rt, number, &tree[at..at + n])?;
@@ -292,13 +286,13 @@ pub fn show_refusal<R: Print + Eprint>(rt: &R, number: u32) {
 }
 
 // The lines of a refusal of two trees.
-fn say_refusal_of(rt: &impl Print, number: u32, side: Side) -> io::Result<()> {
+fn say_refusal_of(rt: &impl Print, number: u32, side: Option<Side>) -> io::Result<()> {
     say_refusal(rt, number)?;
     show_side(rt, side)
 }
 
 // Shows a refusal of two trees: its number, what it means, and which of the trees it is about.
-pub fn show_refusal_of<R: Print + Eprint>(rt: &R, number: u32, side: Side) {
+pub fn show_refusal_of<R: Print + Eprint>(rt: &R, number: u32, side: Option<Side>) {
     say_unless(rt, say_refusal_of(rt, number, side));
 }
 
@@ -329,8 +323,8 @@ pub fn show_chosen<R: Print + Eprint>(rt: &R, bytes: u64, cost: u64, never: u32,
 fn say_checked(rt: &impl Print, packed: u32) -> io::Result<()> {
     show_number(rt, 0)?;
     match Type::unpack(packed) {
-        Unpacked::Is(t) => show_type(rt, t),
-        Unpacked::NotAType => Ok(()),
+        Some(t) => show_type(rt, t),
+        None => Ok(()),
     }
 }
 

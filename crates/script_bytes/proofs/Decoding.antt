@@ -3,7 +3,7 @@ use Prim.Native.Nat.{ℕ, suc, ◌+◌, ◌-◌, ◌≤◌, ◌<◌}
 use native.Mathlib.Omega.{arith}
 use mathlib.Core.Bool.{Bool, true, false, ◌&&◌, cond}
 use mathlib.Core.List.{List, [], ◌∷◌, ◌++◌, append_assoc, map}
-use mathlib.Core.Option.{some}
+use Rattle.std.specs.Prelude.{Some}
 use mathlib.Core.Path.{◌≡◌, refl, sym, ◌∙◌, ap, subst}
 use borrow.Author.Tests.{eqb-true, leb-true, ltb-true, le-leb, lt-leb, ne_eqb}
 use lib.Dec.{leb, ltb, eqb}
@@ -39,12 +39,12 @@ use Rattle.script_bytes.proofs.Pushes.{entry_length, range, write-length}
 
 -- inside a push, the bytes to come are its end
 inside-read : (y : ℕ) (ys x rest : Bytes)
-    → decode_from (inside (length ys) x) (y ∷ ys ++ rest) ≡ with_token (some (push (x ++ y ∷ ys))) (decode_from between rest)
+    → decode_from (inside (length ys) x) (y ∷ ys ++ rest) ≡ with_token (Some (push (x ++ y ∷ ys))) (decode_from between rest)
 unfolding decode_from
 inside-read y [] x rest = refl
 inside-read y (z ∷ zs) x rest =
     inside-read z zs (x ++ y ∷ []) rest
-    ∙ ap (λ (w : Bytes). with_token (some (push w)) (decode_from between rest)) (append_assoc x (y ∷ []) (z ∷ zs))
+    ∙ ap (λ (w : Bytes). with_token (Some (push w)) (decode_from between rest)) (append_assoc x (y ∷ []) (z ∷ zs))
 
 -- the first byte of a push of some length, OP_1 to OP_16, and another opcode
 first-push : (n : ℕ) → 1 ≤ n → n ≤ 75 → first n ≡ goes_to (inside (n - 1) [])
@@ -81,7 +81,7 @@ direct (op n) = ltb 0x60 n
 
 -- what stands in front of the rest is one token
 record Reads (k : Token) (bs : Bytes) : Type 0 where
-  reads : (rest : Bytes) → decode_from between (bs ++ rest) ≡ with_token (some k) (decode_from between rest)
+  reads : (rest : Bytes) → decode_from between (bs ++ rest) ≡ with_token (Some k) (decode_from between rest)
 
 byte_reads : (b : ℕ) (k : Token) → first b ≡ ends k → Reads k (b ∷ [])
 unfolding decode_from
@@ -131,12 +131,12 @@ module _ (c : Context) (t : Tables) where
   all_direct [] = true
   all_direct (w ∷ ws) = direct (token c t w) && all_direct ws
 
-  decode-words : (ws : List Word) → all_direct ws ≡ true → decode (encode c t ws) ≡ some (tokens c t ws)
+  decode-words : (ws : List Word) → all_direct ws ≡ true → decode (encode c t ws) ≡ Some (tokens c t ws)
   unfolding encode decode_from all_direct
   decode-words [] e = refl
   decode-words (w ∷ ws) e =
       let both = and_both (direct (token c t w)) (all_direct ws) e in
-      (token-reads (token c t w) both.0).reads (encode c t ws) ∙ ap (with_token (some (token c t w))) (decode-words ws both.1)
+      (token-reads (token c t w) both.0).reads (encode c t ws) ∙ ap (with_token (Some (token c t w))) (decode-words ws both.1)
 
   -- ---- the words of a tree are read back
 
@@ -281,7 +281,7 @@ module _ (c : Context) (t : Tables) where
         let b = and_both (has_entries c t x) (all_have_entries c t xs) h in
         tree-direct x w.0 b.0 ⧺ (the (ADD ∷ []) refl ⧺ adds-direct xs w.1 b.1)
 
-  tree-decodes : (f : Fragment) → WellFormed f → has_entries c t f ≡ true → decode (script_bytes c t f) ≡ some (tokens c t (merged f))
+  tree-decodes : (f : Fragment) → WellFormed f → has_entries c t f ≡ true → decode (script_bytes c t f) ≡ Some (tokens c t (merged f))
   unfolding script_bytes
   tree-decodes f w h = decode-words (merged f) (tree-direct f w h).all
 

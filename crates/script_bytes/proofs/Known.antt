@@ -2,12 +2,11 @@
 use Prim.Native.Nat.{ℕ}
 use native.Mathlib.Omega.{arith}
 use mathlib.Core.Bool.{Bool, true, false, ◌&&◌, false≢true}
-use mathlib.Core.Option.{some}
+use Rattle.std.specs.Prelude.{Some, Ok}
 use mathlib.Core.Path.{◌≡◌, refl}
 use borrow.Author.Tests.{eqb-true}
 use lib.Dec.{leb, eqb}
 use lib.ListN.{length}
-use Rattle.types.specs.declared.TypeResult.TheVariants.{Ok}
 use Rattle.contexts.specs.declared.Context.{Context}
 use Rattle.trees.specs.Fragment.{Fragment}
 use Rattle.trees.specs.Typing.{type_of}
@@ -34,7 +33,7 @@ done-injective : {A : Type 0} {a b : A} → done a ≡ done b → a ≡ b
 done-injective e = cc
 
 -- its bytes write it, and it is well typed
-passed : (context : ℕ) (c : Context) (tree : Bytes) (words : ℕ) (x : Typed) → context_of context ≡ some c → check_of context tree words ≡ done x
+passed : (context : ℕ) (c : Context) (tree : Bytes) (words : ℕ) (x : Typed) → context_of context ≡ Some c → check_of context tree words ≡ done x
     → (tree_of tree ≡ done x.tree) × (type_of c x.tree ≡ Ok x.type)
 unfolding check_of
 passed context c tree words x known e = go (eqb words max_records) refl

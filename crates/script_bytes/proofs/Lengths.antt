@@ -1,9 +1,11 @@
 -- The figure that the cost counts a script with is its length. Assumes nothing.
+use Rattle.correctness.specs.declared.TypeError.TheVariants as TypeError
+use Rattle.correctness.specs.declared.TypeError.{TypeError}
 use Prim.Native.Nat.{ℕ, suc, ◌+◌, ◌*◌, ◌≤◌}
 use native.Mathlib.Omega.{arith}
 use mathlib.Core.Bool.{Bool, true, false, not, ◌&&◌}
 use mathlib.Core.List.{List, [], ◌∷◌}
-use mathlib.Core.Option.{Option, none, some}
+use Rattle.std.specs.Prelude.{Option, None, Some, Result, Ok, Err}
 use mathlib.Core.Path.{◌≡◌, refl, sym, ◌∙◌, ap}
 use borrow.Author.Tests.{le-ltb, lt-ltb, le-leb, lt-leb}
 use lib.ListN.{length, length-append}
@@ -13,8 +15,6 @@ use Rattle.contexts.specs.declared.Context.{Context}
 use Rattle.contexts.specs.declared.Context.TheVariants.{Segwitv0, Tap}
 use Rattle.contexts.specs.Leaves.{LockKind, After, Older, HashKind, Sha256, Hash256, Ripemd160, Hash160}
 use Rattle.types.specs.declared.«Type».{«Type»}
-use Rattle.types.specs.declared.TypeResult.{TypeResult}
-use Rattle.types.specs.declared.TypeResult.TheVariants.{Ok, IllTyped}
 use Rattle.types.specs.TypeRules as rule
 use Rattle.figures.specs.declared.ExtData.{ExtData}
 use Rattle.figures.specs.Rules.{num, script_num_size, key_bytes, num_cost, false_ext, true_ext, pk_k, pk_h, multi, multi_a, sha256, hash256, ripemd160, hash160}
@@ -294,48 +294,48 @@ multi_a-sized t k keys w h = record {
 
 -- ---- every tree that is well formed, has its entries and is well typed
 
-abbrev IfOk : TypeResult → Type 0 → Type 0
+abbrev IfOk : Result «Type» TypeError → Type 0 → Type 0
 IfOk (Ok ty) P = P
-IfOk IllTyped P = Unit {0}
+IfOk (Err TypeError.IllTyped) P = Unit {0}
 
 abbrev IfAll : Option (List «Type») → Type 0 → Type 0
-IfAll (some ts) P = P
-IfAll none P = Unit {0}
+IfAll (Some ts) P = P
+IfAll None P = Unit {0}
 
-always : (r : TypeResult) {P : Type 0} → P → IfOk r P
+always : (r : Result «Type» TypeError) {P : Type 0} → P → IfOk r P
 always (Ok ty) p = p
-always IllTyped p = tt
+always (Err TypeError.IllTyped) p = tt
 
 -- a rule of one, two or three children
-next : (r : TypeResult) (k : «Type» → TypeResult) (P Q : Type 0) → IfOk r P → ((ty : «Type») → P → IfOk (k ty) Q) → IfOk (r >>= k) Q
+next : (r : Result «Type» TypeError) (k : «Type» → Result «Type» TypeError) (P Q : Type 0) → IfOk r P → ((ty : «Type») → P → IfOk (k ty) Q) → IfOk (r >>= k) Q
 next (Ok ty) k P Q p f = f ty p
-next IllTyped k P Q p f = tt
+next (Err TypeError.IllTyped) k P Q p f = tt
 
 module _ (c : Context) (t : Tables) where
-  one : (x f : Fragment) (k : «Type» → TypeResult) → IfOk (type_of c x) (Sized c t x) → (Sized c t x → Sized c t f)
+  one : (x f : Fragment) (k : «Type» → Result «Type» TypeError) → IfOk (type_of c x) (Sized c t x) → (Sized c t x → Sized c t f)
       → IfOk (type_of c x >>= k) (Sized c t f)
   one x f k p h = next (type_of c x) k (Sized c t x) (Sized c t f) p λ ty q. always (k ty) (h q)
 
-  two : (x y f : Fragment) (k : «Type» → «Type» → TypeResult) → IfOk (type_of c x) (Sized c t x) → IfOk (type_of c y) (Sized c t y)
+  two : (x y f : Fragment) (k : «Type» → «Type» → Result «Type» TypeError) → IfOk (type_of c x) (Sized c t x) → IfOk (type_of c y) (Sized c t y)
       → (Sized c t x → Sized c t y → Sized c t f) → IfOk (type_of c x >>= λ s. type_of c y >>= λ u. k s u) (Sized c t f)
   two x y f k p q h =
       next (type_of c x) (λ s. type_of c y >>= λ u. k s u) (Sized c t x) (Sized c t f) p λ s a. one y f (k s) q (h a)
 
-  three : (x y z f : Fragment) (k : «Type» → «Type» → «Type» → TypeResult)
+  three : (x y z f : Fragment) (k : «Type» → «Type» → «Type» → Result «Type» TypeError)
       → IfOk (type_of c x) (Sized c t x) → IfOk (type_of c y) (Sized c t y) → IfOk (type_of c z) (Sized c t z)
       → (Sized c t x → Sized c t y → Sized c t z → Sized c t f)
       → IfOk (type_of c x >>= λ s. type_of c y >>= λ u. type_of c z >>= λ v. k s u v) (Sized c t f)
   three x y z f k p q r h =
       next (type_of c x) (λ s. type_of c y >>= λ u. type_of c z >>= λ v. k s u v) (Sized c t x) (Sized c t f) p λ s a. two y z f (k s) q r (h a)
 
-  more : (r : TypeResult) (ts : Option (List «Type»)) (P Q : Type 0) → IfOk r P → IfAll ts Q → IfAll (and_all r ts) (P × Q)
-  more (Ok ty) (some ts) P Q p q = (p, q)
-  more (Ok ty) none P Q p q = tt
-  more IllTyped ts P Q p q = tt
+  more : (r : Result «Type» TypeError) (ts : Option (List «Type»)) (P Q : Type 0) → IfOk r P → IfAll ts Q → IfAll (and_all r ts) (P × Q)
+  more (Ok ty) (Some ts) P Q p q = (p, q)
+  more (Ok ty) None P Q p q = tt
+  more (Err TypeError.IllTyped) ts P Q p q = tt
 
-  all : (ts : Option (List «Type»)) (k : List «Type» → TypeResult) (P Q : Type 0) → IfAll ts P → (P → Q) → IfOk (all_typed ts k) Q
-  all (some ts) k P Q p h = always (k ts) (h p)
-  all none k P Q p h = tt
+  all : (ts : Option (List «Type»)) (k : List «Type» → Result «Type» TypeError) (P Q : Type 0) → IfAll ts P → (P → Q) → IfOk (all_typed ts k) Q
+  all (Some ts) k P Q p h = always (k ts) (h p)
+  all None k P Q p h = tt
 
 -- Multi is well typed in context 0, MultiA in context 1
 multi-typed : (c : Context) (t : Tables) (k : ℕ) (keys : List ℕ) → IsThreshold k (length keys) → has_keys c t keys ≡ true

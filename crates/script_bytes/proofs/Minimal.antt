@@ -3,7 +3,7 @@ use Prim.Native.Nat.{ℕ, zero, suc, ◌+◌, ◌-◌, ◌≤◌}
 use native.Mathlib.Omega.{arith}
 use mathlib.Core.Bool.{Bool, true, false, ◌&&◌}
 use mathlib.Core.List.{List, [], ◌∷◌, ◌++◌}
-use mathlib.Core.Option.{Option, none, some}
+use Rattle.std.specs.Prelude.{Option, None, Some}
 use mathlib.Core.Path.{◌≡◌, refl, sym, ◌∙◌, ap}
 use borrow.Author.Tests.{eqb-false, leb-true, le-leb}
 use lib.Dec.{leb, eqb}
@@ -30,13 +30,13 @@ push-at-most (b ∷ c ∷ bs) = omega arith
 
 -- ---- what is read as a push
 
-none≢some : {A : Type 0} {a : A} → none ≡ some a → ⊥
+none≢some : {A : Type 0} {a : A} → None ≡ Some a → ⊥
 none≢some e = let z : ◌≡◌ {A = ℕ} 0 1 = cc in omega arith
 
 -- the token that was read first
-read_first : (k : Token) (rest : Option (List Token)) {x : Bytes} {ks : List Token} → with_token (some k) rest ≡ some (push x ∷ ks) → k ≡ push x
-read_first k none e = absurd (none≢some e)
-read_first k (some more) e = cc
+read_first : (k : Token) (rest : Option (List Token)) {x : Bytes} {ks : List Token} → with_token (Some k) rest ≡ Some (push x ∷ ks) → k ≡ push x
+read_first k None e = absurd (none≢some e)
+read_first k (Some more) e = cc
 
 op≢push : {n : ℕ} {x : Bytes} → op n ≡ push x → ⊥
 op≢push e = let z : ◌≡◌ {A = ℕ} 0 1 = cc in omega arith
@@ -44,12 +44,12 @@ op≢push e = let z : ◌≡◌ {A = ℕ} 0 1 = cc in omega arith
 pushed : {x y : Bytes} → push x ≡ push y → x ≡ y
 pushed e = cc
 
-lost-for-good : (bs : Bytes) → decode_from lost bs ≡ none
+lost-for-good : (bs : Bytes) → decode_from lost bs ≡ None
 unfolding decode_from
 lost-for-good [] = refl
 lost-for-good (b ∷ bs) = lost-for-good bs
 
-inside-length : (bs : Bytes) (n : ℕ) (y x : Bytes) (ks : List Token) → decode_from (inside n y) bs ≡ some (push x ∷ ks)
+inside-length : (bs : Bytes) (n : ℕ) (y x : Bytes) (ks : List Token) → decode_from (inside n y) bs ≡ Some (push x ∷ ks)
     → (length x ≡ length y + suc n) × (suc n ≤ length bs)
 unfolding decode_from
 inside-length [] n y x ks e = absurd (none≢some e)
@@ -68,7 +68,7 @@ unfolding decode_from push_bytes
 minimal-pushes x [] e = absurd (let z : ◌≡◌ {A = ℕ} 0 1 = cc in omega arith)
 minimal-pushes x (b ∷ bs) e = go (eqb b 0) (leb b 75) (leb b 0x4e) (eqb b 0x4f) (leb 0x51 b) (leb b 0x60) refl refl refl refl refl refl
   where
-    the-push : (y : Bytes) → with_token (some (push y)) (decode_from between bs) ≡ some (push x ∷ []) → length (push_bytes y) ≡ 1
+    the-push : (y : Bytes) → with_token (Some (push y)) (decode_from between bs) ≡ Some (push x ∷ []) → length (push_bytes y) ≡ 1
         → length (push_bytes x) ≤ suc (length bs)
     the-push y d l = omega (arith, l, ap (λ (z : Bytes). length (push_bytes z)) (pushed (read_first (push y) (decode_from between bs) d)))
 

@@ -1,7 +1,7 @@
 -- No two words have one opcode. Assumes nothing.
 use Prim.Native.Nat.{ℕ}
 use mathlib.Core.List.{List, [], ◌∷◌}
-use mathlib.Core.Option.{some}
+use Rattle.std.specs.Prelude.{Some}
 use mathlib.Core.Path.{◌≡◌, ap}
 use Rattle.contexts.specs.declared.Context.{Context}
 use Rattle.contexts.specs.Leaves.{Sha256, Hash256, Ripemd160, Hash160}
@@ -29,7 +29,7 @@ number (op n) = n
 
 module _ (c : Context) (t : Tables) where
   -- the word of an opcode is found by its number
-  named : (w : Word) {n : ℕ} → token c t w ≡ op n → find n words ≡ some w
+  named : (w : Word) {n : ℕ} → token c t w ≡ op n → find n words ≡ Some w
   unfolding find
   named (<n> n) e = cc
   named (<key> n) e = cc

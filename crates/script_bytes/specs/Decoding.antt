@@ -1,6 +1,5 @@
 -- What a Bitcoin node reads in a script, and that it reads the words of document 01's translation in ours: document 02, R-1.
-use Rattle.std.specs.Prelude.{ℕ, zero, suc, ◌-◌, ◌≤◌, ◌&&◌, cond, List, [], ◌∷◌, ◌++◌, ◌≡◌, leb, eqb, length}
-use Rattle.std.proofs.Math.Option.{Option, none, some}
+use Rattle.std.specs.Prelude.{ℕ, zero, suc, ◌-◌, ◌≤◌, ◌&&◌, cond, List, [], ◌∷◌, ◌++◌, ◌≡◌, leb, eqb, length, Option, None, Some}
 use Rattle.contexts.specs.declared.Context.{Context}
 use Rattle.trees.specs.TreeCheck.{Typed}
 use Rattle.script_machine.specs.Numbers.{Bytes}
@@ -24,10 +23,10 @@ pub record Step : Type 0 where
   pub place : Place
 
 abbrev pub ends : Token → Step
-ends k = record { ended = some k; place = between }
+ends k = record { ended = Some k; place = between }
 
 abbrev pub goes_to : Place → Step
-goes_to p = record { ended = none; place = p }
+goes_to p = record { ended = None; place = p }
 
 -- A token's first byte: OP_0, the length of a push of 1 to 75 bytes, OP_PUSHDATA1 to OP_PUSHDATA4 (which are refused), OP_1NEGATE,
 -- OP_1 to OP_16, or another opcode.
@@ -48,14 +47,14 @@ next lost b = goes_to lost
 
 -- A script ends between two tokens.
 abbrev pub at_end : Place → Option (List Token)
-at_end between = some []
-at_end (inside n x) = none
-at_end lost = none
+at_end between = Some []
+at_end (inside n x) = None
+at_end lost = None
 
 abbrev pub with_token : Option Token → Option (List Token) → Option (List Token)
-with_token none ks = ks
-with_token (some k) none = none
-with_token (some k) (some ks) = some (k ∷ ks)
+with_token None ks = ks
+with_token (Some k) None = None
+with_token (Some k) (Some ks) = Some (k ∷ ks)
 
 unfoldable pub decode_from : Place → Bytes → Option (List Token)
 decode_from p [] = at_end p
@@ -67,7 +66,7 @@ decode bs = decode_from between bs
 
 -- Pushes are minimal: no byte string that is read as one push is shorter than ours.
 abbrev pub MinimalPushes : Type 0
-MinimalPushes = (x bytes : Bytes) → decode bytes ≡ some (push x ∷ []) → length (push_bytes x) ≤ length bytes
+MinimalPushes = (x bytes : Bytes) → decode bytes ≡ Some (push x ∷ []) → length (push_bytes x) ≤ length bytes
 
 -- The combined VERIFY opcodes split: EQUALVERIFY, NUMEQUALVERIFY, CHECKSIGVERIFY and CHECKMULTISIGVERIFY, each into its test and VERIFY.
 abbrev pub split_token : Token → List Token
@@ -86,7 +85,7 @@ split_tokens (k ∷ ks) = split_token k ++ split_tokens ks
 -- Some bytes are read as these words, once combined opcodes are split on either side.
 pub record ReadAs (c : Context) (t : Tables) (bytes : Bytes) (words : List Word) : Type 0 where
   pub read : List Token
-  pub decodes : decode bytes ≡ some read
+  pub decodes : decode bytes ≡ Some read
   pub alike : split_tokens read ≡ split_tokens (tokens c t words)
 
 -- What the entry writes is read as the words of document 01's translation.

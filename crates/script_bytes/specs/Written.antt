@@ -1,6 +1,5 @@
 -- What the theorems about the entry's script start from.
-use Rattle.std.specs.Prelude.{ℕ, List, ◌≡◌, length}
-use Rattle.std.proofs.Math.Option.{some}
+use Rattle.std.specs.Prelude.{ℕ, List, ◌≡◌, length, Some}
 use Rattle.contexts.specs.declared.Context.{Context}
 use Rattle.trees.specs.Reading.{done}
 use Rattle.trees.specs.TreeCheck.{Typed, context_of, check_of}
@@ -15,7 +14,7 @@ pub record Written (c : Context) (t : Tables) (x : Typed) (script : Bytes) : Typ
   pub tree : Bytes
   pub out : Bytes
   pub work : List ℕ
-  pub in-context : context_of context ≡ some c
+  pub in-context : context_of context ≡ Some c
   pub of-bytes : AllBelow 256 tree
   pub passes : check_of context tree (length work) ≡ done x
   pub writes : script_of context tree t out work ≡ done script

@@ -1,14 +1,13 @@
 // The commands that write a script, as it is or word by word: the tree and the four tables come from files.
 #![tactic(auto)]
 
-ghost use Rattle.std.specs.Prelude.{◌≤◌, length};
+ghost use Rattle.std.specs.Prelude.{◌≤◌, length, IfSome};
 ghost use Rattle.files.specs.Rooms.{Held};
 
 use command_line::{
-    Asked, HASHES20_AFTER, HASHES32_AFTER, INPUT_WORD, KEY_HASHES_AFTER, KEYS_AFTER, SCRIPT_AFTER,
-    WORDS_INPUT_WORD,
+    Asked, Command, HASHES20_AFTER, HASHES32_AFTER, INPUT_WORD, KEY_HASHES_AFTER, KEYS_AFTER,
+    SCRIPT_AFTER, WORDS_INPUT_WORD,
 };
-use files::Loaded;
 use record_files::{ROOM, load_records};
 use report::show_refusal;
 use std::rt::{Env, Files};
@@ -31,7 +30,11 @@ const INDEX_WORDS: usize = 16_384;
 
 // Reads the table of keys that the words name. Here and below `input` is the place of TREE among them, which is one later where the script is shown
 // word by word.
-fn load_keys<R: Env + Files + Input + Eprint>(rt: &R, input: usize, room: &mut [u8]) -> Loaded
+fn load_keys<R: Env + Files + Input + Eprint>(
+    rt: &R,
+    input: usize,
+    room: &mut [u8],
+) -> Option<usize>
     requires { input ≤ 4 }
     ensures { Held (length room.new) result }
 {
@@ -46,7 +49,7 @@ fn load_keys<R: Env + Files + Input + Eprint>(rt: &R, input: usize, room: &mut [
 }
 
 // Reads the table of hashes that word i names.
-fn load_hashes<R: Env + Files + Input + Eprint>(rt: &R, i: usize, room: &mut [u8]) -> Loaded
+fn load_hashes<R: Env + Files + Input + Eprint>(rt: &R, i: usize, room: &mut [u8]) -> Option<usize>
     ensures { Held (length room.new) result }
 {
     files::load_word(
@@ -138,15 +141,15 @@ fn script_with_keys<R: Env + Files + Input + Print + Eprint>(
     requires { input ≤ 4 }
 {
     let mut key_hashes = [0u8; HASHES_ROOM];
-    let Loaded::Bytes(h) = load_hashes(rt, input + KEY_HASHES_AFTER, &mut key_hashes) else {
+    let Some(h) = load_hashes(rt, input + KEY_HASHES_AFTER, &mut key_hashes) else {
         return;
     };
     let mut hashes32 = [0u8; HASHES_ROOM];
-    let Loaded::Bytes(l) = load_hashes(rt, input + HASHES32_AFTER, &mut hashes32) else {
+    let Some(l) = load_hashes(rt, input + HASHES32_AFTER, &mut hashes32) else {
         return;
     };
     let mut hashes20 = [0u8; HASHES_ROOM];
-    let Loaded::Bytes(s) = load_hashes(rt, input + HASHES20_AFTER, &mut hashes20) else {
+    let Some(s) = load_hashes(rt, input + HASHES20_AFTER, &mut hashes20) else {
         return;
     };
     script_of(
@@ -166,64 +169,31 @@ fn script_from<R: Env + Files + Input + Print + Eprint>(rt: &R, context: u32, in
     requires { input ≤ 4 }
 {
     let mut tree = [0u8; ROOM];
-    let Loaded::Bytes(t) = load_records(rt, input, &mut tree) else {
+    let Some(t) = load_records(rt, input, &mut tree) else {
         return;
     };
     let mut keys = [0u8; KEYS_ROOM];
-    let Loaded::Bytes(k) = load_keys(rt, input, &mut keys) else {
+    let Some(k) = load_keys(rt, input, &mut keys) else {
         return;
     };
     script_with_keys(rt, context, &tree[..t], &keys[..k], input);
 }
 
-// Where a script that is asked for comes from: its context, and the place of TREE among the words.
-#[derive(Clone, Copy)]
-struct Place {
-    asked: bool,
-    context: u32,
-    input: usize,
-}
-
-// That of a script, if the words ask for one.
-fn place_of(asked: Asked) -> Place
-    ensures { result.input ≤ 4 }
+// The place of TREE among the words that ask for a script, if they do.
+fn tree_place(command: Command) -> Option<usize>
+    ensures { IfSome result (λ input. input ≤ 4) }
 {
-    let none = Place {
-        asked: false,
-        context: 0,
-        input: 0,
-    };
-    match asked {
-        Asked::Compile(_) => none,
-        Asked::Size(_) => none,
-        Asked::Check(_) => none,
-        Asked::Script(context) => Place {
-            asked: true,
-            context,
-            input: INPUT_WORD,
-        },
-        Asked::Words(context) => Place {
-            asked: true,
-            context,
-            input: WORDS_INPUT_WORD,
-        },
-        Asked::Differ(_) => none,
-        Asked::Index(_) => none,
-        Asked::At(_) => none,
-        Asked::Accept(_) => none,
-        Asked::New => none,
-        Asked::Old => none,
-        Asked::Nothing => none,
+    match command {
+        Command::Script => Some(INPUT_WORD),
+        Command::Words => Some(WORDS_INPUT_WORD),
+        _ => None,
     }
 }
 
 // Writes the script that the words ask for, if they do, and shows its bytes, or its words. The two commands share one call, so that the rooms of a
 // script lie where those of the other commands do.
 pub fn write_script<R: Env + Files + Input + Print + Eprint>(rt: &R, asked: Asked) {
-    let place = place_of(asked);
-    let context = place.context;
-    let input = place.input;
-    if place.asked {
-        script_from(rt, context, input);
+    if let Some(input) = tree_place(asked.command) {
+        script_from(rt, asked.context, input);
     }
 }

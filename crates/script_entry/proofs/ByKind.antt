@@ -2,7 +2,7 @@
 use Prim.Native.Nat.{ℕ, zero, suc}
 use mathlib.Core.Bool.{Bool}
 use mathlib.Core.List.{[], ◌∷◌}
-use mathlib.Core.Path.{◌≡◌, refl, sym, ◌∙◌}
+use mathlib.Core.Path.{◌≡◌, refl}
 use borrow.Author.Tests.{ne_eqb}
 use Rattle.trees.specs.Tree.{find}
 use Rattle.script_bytes.specs.Layout.{verify_byte}
@@ -26,21 +26,3 @@ module _ (kind : ℕ) where
   later : (j : ℕ) → (j ≡ 0 → ⊥) → after_later kind j ≡ after kind j
   later zero h = absurd (h refl)
   later (suc j) h = refl
-
-  pub else-after : (j : ℕ) → kind ≡ 55 → j ≡ 1 → 0x67 ∷ [] ≡ after kind j
-  else-after j e f = rw (e, f)
-
-  pub none_after : (j : ℕ) → kind ≡ 55 → (j ≡ 0 → ⊥) → (j ≡ 1 → ⊥) → [] ≡ after kind j
-  none_after j e h f =
-      let none : after_later kind j ≡ [] = rw (e, ne_eqb j 1 f) in
-      sym none ∙ later j h
-
-  pub add-after : (j : ℕ) → kind ≡ 56 → (j ≡ 0 → ⊥) → 0x93 ∷ [] ≡ after kind j
-  add-after j e h =
-      let one : after_later kind j ≡ 0x93 ∷ [] = rw e in
-      sym one ∙ later j h
-
-  pub other_after : (j : ℕ) → (kind ≡ 55 → ⊥) → (kind ≡ 56 → ⊥) → (j ≡ 0 → ⊥) → [] ≡ after kind j
-  other_after j e f h =
-      let none : after_later kind j ≡ [] = rw (ne_eqb kind 55 e, ne_eqb kind 56 f) in
-      sym none ∙ later j h

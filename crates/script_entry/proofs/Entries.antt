@@ -2,7 +2,7 @@
 use Prim.Native.Nat.{ℕ, suc, ◌+◌, ◌*◌, ◌/◌, ◌≤◌, ◌<◌}
 use mathlib.Core.Bool.{Bool, true, false, ◌&&◌, cond}
 use mathlib.Core.List.{List, [], ◌∷◌}
-use mathlib.Core.Option.{Option, none, some}
+use Rattle.std.specs.Prelude.{Option, None, Some}
 use mathlib.Core.Path.{◌≡◌, refl, sym, ap, ◌∙◌}
 use native.Mathlib.Nat.{le-div_iff_mul-le}
 use native.Mathlib.Omega.{arith}
@@ -14,9 +14,9 @@ use Rattle.records.proofs.Laws.{keys-first, keys-next, keys-end}
 use Rattle.contexts.specs.declared.Context.{Context}
 use Rattle.contexts.specs.Leaves.{After, Older, Sha256, Hash256, Ripemd160, Hash160}
 use Rattle.trees.specs.Fragment.{Fragment, False, True, PkK, PkH, Lock, Hash}
-use Rattle.trees.specs.Tree.{◌is◌, find}
+use Rattle.trees.specs.Tree.{find}
 use Rattle.script_machine.specs.Numbers.{Bytes}
-use Rattle.script_bytes.specs.Tables.{Tables, tables, has_key, has_key_hash, has_hash}
+use Rattle.script_bytes.specs.Tables.{Tables, tables, has_key}
 use Rattle.script_bytes.specs.ScriptOf.{has_keys, has_entries}
 use Rattle.walk.specs.TreeRecords.{TreeRecord, record_at}
 use Rattle.walk.specs.Nodes.{node_of}
@@ -32,7 +32,7 @@ use Rattle.script_entry.proofs.Nodes.{leaf-here}
 
 module _ (P : Fragment → Type 0) where
   either : (b : Bool) (x : Fragment) (rest : Option Fragment) (other : Fragment) → (b ≡ true → P x) → P (or_else other rest)
-      → P (or_else other (cond b (some x) rest))
+      → P (or_else other (cond b (Some x) rest))
   either true x rest other p q = p refl
   either false x rest other p q = q
 
@@ -49,14 +49,14 @@ module _ (P : Fragment → Type 0) where
       (either (eqb kind 38) (Hash Sha256 n) _ False sha256
       (either (eqb kind 39) (Hash Hash256 n) _ False hash256
       (either (eqb kind 40) (Hash Ripemd160 n) _ False ripemd160
-      (either (eqb kind 41) (Hash Hash160 n) none False hash160 zero_is))))))))
+      (either (eqb kind 41) (Hash Hash160 n) None False hash160 zero_is))))))))
 
   by-leaf : (bytes : Bytes) → (eqb (kind_of bytes) 57 ≡ true → P (multi_of bytes)) → (eqb (kind_of bytes) 58 ≡ true → P (multi_a_of bytes))
       → P (numbered (kind_of bytes) (number_in bytes)) → P (leaf_of bytes)
   unfolding leaf_of find
   by-leaf bytes multi multi_a other =
       either (eqb (kind_of bytes) 57) (multi_of bytes) _ (numbered (kind_of bytes) (number_in bytes)) multi
-      (either (eqb (kind_of bytes) 58) (multi_a_of bytes) none (numbered (kind_of bytes) (number_in bytes)) multi_a other)
+      (either (eqb (kind_of bytes) 58) (multi_a_of bytes) None (numbered (kind_of bytes) (number_in bytes)) multi_a other)
 
 module _ (c : Context) (t : Tables) (bytes : Bytes) where
   abbrev Same : Fragment → Type 0
@@ -77,17 +77,6 @@ module _ (c : Context) (t : Tables) (bytes : Bytes) where
       leaf.is-numbered bytes (λ e. omega arith) (λ e. omega arith)
       ∙ leaf.is_false (kind_of bytes) (number_in bytes) (λ e. omega arith) (λ e. omega arith) (λ e. omega arith) (λ e. omega arith)
       (λ e. omega arith) (λ e. omega arith) (λ e. omega arith) (λ e. omega arith) (λ e. omega arith)
-
-  -- a record of a kind that holds no number of a table
-  pub other-entry : {kind : ℕ} → kind ≡ kind_of bytes → (kind ≡ 34 → ⊥) → (kind ≡ 35 → ⊥) → (kind ≡ 38 → ⊥) → (kind ≡ 39 → ⊥)
-      → (kind ≡ 40 → ⊥) → (kind ≡ 41 → ⊥) → (kind ≡ 57 → ⊥) → (kind ≡ 58 → ⊥) → true ≡ has_entries c t (leaf_of bytes)
-  unfolding has_entries
-  other-entry {kind} known k34 k35 k38 k39 k40 k41 k57 k58 =
-      by-leaf Has bytes (λ e. absurd (k57 (known ∙ eqb-true (kind_of bytes) 57 e))) (λ e. absurd (k58 (known ∙ eqb-true (kind_of bytes) 58 e)))
-      (by_number Has (kind_of bytes) (number_in bytes) refl refl (λ e. absurd (k34 (known ∙ eqb-true (kind_of bytes) 34 e)))
-      (λ e. absurd (k35 (known ∙ eqb-true (kind_of bytes) 35 e))) refl refl (λ e. absurd (k38 (known ∙ eqb-true (kind_of bytes) 38 e)))
-      (λ e. absurd (k39 (known ∙ eqb-true (kind_of bytes) 39 e))) (λ e. absurd (k40 (known ∙ eqb-true (kind_of bytes) 40 e)))
-      (λ e. absurd (k41 (known ∙ eqb-true (kind_of bytes) 41 e))))
 
 -- the entries of record i are those of its leaf
 pub entries-leaf : (c : Context) (t : Tables) {tree : List ℕ} {i : ℕ} → TreeRecord tree i → entries_at c t tree i ≡ has_entries c t (leaf_of (record_at tree i))
@@ -114,26 +103,6 @@ module _ (c : Context) (t : Tables) (bytes : Bytes) {kind : ℕ} (known : kind �
   pub key-entry : kind ≡ 34 → has_key c t (number_in bytes) ≡ has_entries c t (leaf_of bytes)
   unfolding has_entries
   key-entry e = of_number 34 PkK (omega arith) (omega arith) e (leaf.is-pk-k (kind_of bytes))
-
-  pub key-hash-entry : kind ≡ 35 → has_key_hash t (number_in bytes) ≡ has_entries c t (leaf_of bytes)
-  unfolding has_entries
-  key-hash-entry e = of_number 35 PkH (omega arith) (omega arith) e (leaf.is-pk-h (kind_of bytes))
-
-  pub sha256-entry : kind ≡ 38 → has_hash t Sha256 (number_in bytes) ≡ has_entries c t (leaf_of bytes)
-  unfolding has_entries
-  sha256-entry e = of_number 38 (Hash Sha256) (omega arith) (omega arith) e (leaf.is-sha256 (kind_of bytes))
-
-  pub hash256-entry : kind ≡ 39 → has_hash t Hash256 (number_in bytes) ≡ has_entries c t (leaf_of bytes)
-  unfolding has_entries
-  hash256-entry e = of_number 39 (Hash Hash256) (omega arith) (omega arith) e (leaf.is-hash256 (kind_of bytes))
-
-  pub ripemd160-entry : kind ≡ 40 → has_hash t Ripemd160 (number_in bytes) ≡ has_entries c t (leaf_of bytes)
-  unfolding has_entries
-  ripemd160-entry e = of_number 40 (Hash Ripemd160) (omega arith) (omega arith) e (leaf.is-ripemd160 (kind_of bytes))
-
-  pub hash160-entry : kind ≡ 41 → has_hash t Hash160 (number_in bytes) ≡ has_entries c t (leaf_of bytes)
-  unfolding has_entries
-  hash160-entry e = of_number 41 (Hash Hash160) (omega arith) (omega arith) e (leaf.is-hash160 (kind_of bytes))
 
   pub multi-entries : kind ≡ 57 → has_keys c t (keys_in bytes) ≡ has_entries c t (leaf_of bytes)
   unfolding has_entries

@@ -1,7 +1,10 @@
 -- The run that measures and the run that writes, and what the script of a tree comes to by them. Assumes nothing.
 use Prim.Native.Nat.{ℕ, ◌-◌, ◌≤◌, ◌<◌}
 use mathlib.Core.Bool.{Bool, true, false}
-use mathlib.Core.List.{List, [], ◌++◌}
+use mathlib.Core.List.{[], ◌++◌}
+use Rattle.std.specs.Prelude.{Result, Ok, Err}
+use Rattle.refusals.specs.declared.Refusal.{Refusal}
+use Rattle.refusals.specs.Numbers.{number_of}
 use mathlib.Core.Path.{◌≡◌, refl, sym, ap, subst, ◌∙◌}
 use borrow.Author.Tests.{le-leb, lt-leb}
 use lib.ListN.{length}
@@ -19,30 +22,29 @@ use Rattle.script_bytes.proofs.OwnEntries.{of-records}
 use Rattle.script_bytes.proofs.Merging.{script-bytes}
 use Rattle.script_leaves.specs.Laying.{Lays}
 use Rattle.script_leaves.proofs.Laws as laws
-use Rattle.script_entry.specs.declared.Given.{Given}
 use Rattle.script_entry.specs.Outcomes.{Gives}
 
-gives_as : {a b : Answer Bytes} {out left : Bytes} {r : Given} → a ≡ b → Gives b out left r → Gives a out left r
+pub gives_as : {a b : Answer Bytes} {out left : Bytes} {r : Result ℕ Refusal} → a ≡ b → Gives b out left r → Gives a out left r
 gives_as {a} {b} {out} {left} {r} e g = subst (λ (x : Answer Bytes). Gives x out left r) (sym e) g
 
 -- a refusal leaves the output as it was
-refuses : (n : ℕ) {out left : Bytes} → left ≡ out → Gives (refused n) out left (record { number = n; bytes = 0 })
-refuses n e = record { number = refl; writes = e; counts = refl }
+pub refuses : (r : Refusal) {out left : Bytes} → left ≡ out → Gives (refused (number_of r)) out left (Err r)
+refuses r e = record { number = refl; writes = e; counts = refl }
 
 module _ (c : Context) (t : Tables) (f : Fragment) (out : Bytes) {part : Bytes} {n : ℕ} (measured : Lays [] part 0 (bytes_of c t false f) n) where
   -- the measuring run leaves the output as it was
   as_it_was : part ++ out ≡ out
   as_it_was = ap (λ (z : Bytes). z ++ out) (laws.measuring measured)
 
-  pub too_long : length (part ++ out) < n → Gives (fitting (length out) (script_bytes c t f)) out (part ++ out) (record { number = 13; bytes = 0 })
+  pub too_long : length (part ++ out) < n → Gives (fitting (length out) (script_bytes c t f)) out (part ++ out) (Err Refusal.OutputTooSmall)
   too_long h =
       let long : length out < length (script_bytes c t f) =
       rw (script-bytes c t f) (laws.too_long (length out) measured (rw (ap length as_it_was) at h)) in
       let no : fitting (length out) (script_bytes c t f) ≡ refused output_too_small = rw (lt-leb (length (script_bytes c t f)) (length out) long) in
-      gives_as no (refuses output_too_small as_it_was)
+      gives_as no (refuses Refusal.OutputTooSmall as_it_was)
 
   pub fits : n ≤ length (part ++ out) → {left : Bytes} {end : ℕ} → Lays (part ++ out) left 0 (bytes_of c t false f) end
-      → Gives (fitting (length out) (script_bytes c t f)) out left (record { number = 0; bytes = n })
+      → Gives (fitting (length out) (script_bytes c t f)) out left (Ok n)
   fits h {left} {end} l =
       let written : Lays out left 0 (bytes_of c t false f) end = subst (λ (z : Bytes). Lays z left 0 (bytes_of c t false f) end) as_it_was l in
       let both = laws.fitting (length out) measured written.short (rw (ap length as_it_was) at h) in
@@ -58,7 +60,7 @@ module _ (c : Context) (t : Tables) {tree : Bytes} {f : Fragment} (rows : TreeRe
   tells : has_entries c t f ≡ all
   tells = of-records c t rows ∙ ap (entries_below c t tree) (sym counted) ∙ sym told
 
-  pub with_entries : {out left : Bytes} {g : Given} → all ≡ true
+  pub with_entries : {out left : Bytes} {g : Result ℕ Refusal} → all ≡ true
       → Gives (fitting room (script_bytes c t (fragment_at tree (count - 1)))) out left g → Gives (script_in c t room f) out left g
   with_entries e g =
       let has : has_entries c t f ≡ true = tells ∙ e in
@@ -66,8 +68,8 @@ module _ (c : Context) (t : Tables) {tree : Bytes} {f : Fragment} (rows : TreeRe
       let same : script_in c t room f ≡ fitting room (script_bytes c t (fragment_at tree (count - 1))) = rw (has, root) in
       gives_as same g
 
-  pub without-entry : {out left : Bytes} → left ≡ out → all ≡ false → Gives (script_in c t room f) out left (record { number = 17; bytes = 0 })
+  pub without-entry : {out left : Bytes} → left ≡ out → all ≡ false → Gives (script_in c t room f) out left (Err Refusal.NoEntry)
   without-entry same e =
       let miss : has_entries c t f ≡ false = tells ∙ e in
       let no : script_in c t room f ≡ refused no_entry = rw miss in
-      gives_as no (refuses no_entry same)
+      gives_as no (refuses Refusal.NoEntry same)

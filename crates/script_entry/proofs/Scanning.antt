@@ -1,10 +1,12 @@
 -- Looking for the entries of each record, and what that tells of the records up to the last. Assumes nothing.
-use Prim.Native.Nat.{ℕ, ◌+◌, ◌-◌, ◌≤◌, ◌<◌}
-use mathlib.Core.Bool.{Bool, true, ◌&&◌}
+use Prim.Native.Nat.{ℕ, zero, suc, ◌+◌, ◌-◌, ◌≤◌, ◌<◌}
+use mathlib.Core.Bool.{Bool, true, false, ◌&&◌}
 use mathlib.Core.List.{List}
-use mathlib.Core.Path.{◌≡◌, sym, ap, ◌∙◌}
+use mathlib.Core.Path.{◌≡◌, refl, sym, ap, ◌∙◌}
 use native.Mathlib.Numerals.{add-one}
 use native.Mathlib.Omega.{arith}
+use borrow.Author.Tests.{eqb-true, eqb-false}
+use lib.Dec.{eqb}
 use Rattle.contexts.specs.declared.Context.{Context}
 use Rattle.trees.specs.Fragment.{Fragment}
 use Rattle.walk.specs.TreeRecords.{TreeRecord, TreeRecords, record_at}
@@ -12,11 +14,27 @@ use Rattle.walk.specs.Nodes.{AllPlaced}
 use Rattle.walk.specs.Folds.{over_records}
 use Rattle.script_bytes.specs.Tables.{Tables}
 use Rattle.script_bytes.specs.ScriptOf.{has_entries}
-use Rattle.script_bytes.specs.Entries.{own_entries, entries_below}
+use Rattle.script_bytes.specs.Entries.{entries_below}
 use Rattle.script_bytes.proofs.Entries.{entries-all, entries-each}
 use Rattle.script_leaves.specs.Leaves.{leaf_of}
 use Rattle.script_entry.specs.Outcomes.{Ready}
 use Rattle.script_entry.proofs.Entries.{entries-leaf}
+
+-- a record without its entries is not made good by later ones
+pub still-false : (c : Context) (t : Tables) (tree : List ℕ) (i n : ℕ) → i ≤ n → entries_below c t tree i ≡ false → entries_below c t tree n ≡ false
+unfolding over_records
+still-false c t tree i zero h e =
+    let first : i ≡ 0 = omega arith in
+    rw first at e
+still-false c t tree i (suc n) h e = by-place (eqb i (suc n)) refl (λ l. still-false c t tree i n l e)
+  where
+    by-place : (b : Bool) → eqb i (suc n) ≡ b → (i ≤ n → entries_below c t tree n ≡ false) → entries_below c t tree (suc n) ≡ false
+    by-place true b before =
+        let same = eqb-true i (suc n) b in
+        rw same at e
+    by-place false b before =
+        let no = before (omega (arith, eqb-false i (suc n) b)) in
+        rw no
 
 module _ (c : Context) (t : Tables) {tree : List ℕ} where
   -- one record more

@@ -1,7 +1,6 @@
 -- A fragment with children in bytes, piece by piece and by its kind's number: what stands before the first child, each child in the script's
 -- order with what follows it, and what stands last. proofs/Pieces.antt shows that these are the bytes of script_bytes.
-use Rattle.std.specs.Prelude.{ℕ, zero, suc, Bool, true, false, ◌&&◌, cond, [], ◌∷◌, ◌++◌, eqb}
-use Rattle.std.proofs.Math.Option.{Option, none, some}
+use Rattle.std.specs.Prelude.{ℕ, zero, suc, Bool, true, false, ◌&&◌, cond, [], ◌∷◌, ◌++◌, eqb, Option, None, Some}
 use Rattle.contexts.specs.declared.Context.{Context}
 use Rattle.trees.specs.Fragment.{Fragment}
 use Rattle.trees.specs.Tree.{◌is◌, find}
@@ -10,8 +9,8 @@ use Rattle.script_bytes.specs.Tables.{Tables}
 use Rattle.script_bytes.specs.Layout.{verify_byte, test_byte, number_bytes, bytes_of}
 
 abbrev pub or_else : {A : Type 0} → A → Option A → A
-or_else a (some x) = x
-or_else a none = a
+or_else a (Some x) = x
+or_else a None = a
 
 -- before the first child: TOALTSTACK, SWAP, DUP IF, SIZE 0NOTEQUAL IF, IF
 abbrev pub front : (kind : ℕ) → Bytes

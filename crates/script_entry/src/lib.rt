@@ -5,28 +5,26 @@
 // `walk` has the records.
 #![tactic(auto)]
 
-ghost use Rattle.std.specs.Prelude.{◌≡◌, true, ◌&&◌, ◌-◌, ◌≤◌, length};
+ghost use Rattle.std.specs.Prelude.{◌≡◌, true, ◌-◌, ◌≤◌, length};
 ghost use Rattle.trees.specs.Fragment.{Fragment};
 ghost use Rattle.trees.specs.Reading.{max_records};
 ghost use Rattle.records.specs.Payloads.{keys_in};
 ghost use Rattle.walk.specs.TreeRecords.{TreeRecords, Written, record_at, fragment_at};
 ghost use Rattle.walk.specs.Nodes.{Placed, AllPlaced};
 ghost use Rattle.script_bytes.specs.Tables.{tables, key_size, whole};
-ghost use Rattle.script_bytes.specs.ScriptOf.{has_keys, has_entries, fitting, script_in, ScriptPromise};
+ghost use Rattle.script_bytes.specs.ScriptOf.{has_keys, has_entries, fitting, script_in, script_of, ScriptPromise};
 ghost use Rattle.script_bytes.specs.Encoding.{script_bytes};
 ghost use Rattle.script_bytes.specs.Layout.{bytes_of};
 ghost use Rattle.script_bytes.specs.Entries.{entries_below};
 ghost use Rattle.script_leaves.specs.Laying.{Lays, only_keys};
+ghost use Rattle.script_leaves.specs.Lent.{lent};
 ghost use Rattle.script_leaves.specs.Leaves.{leaf_of};
 ghost use Rattle.script_entry.specs.Pieces.{front, after, closing, last, child_verified, place};
 ghost use Rattle.script_entry.specs.Outcomes.{Ready, Gives};
 
 use contexts::Context;
-
-// Document 02's numbers of the refusals that come after those of the tree check.
-const NO_ENTRY: u32 = 17;
-
-const OUTPUT_TOO_SMALL: u32 = 13;
+use refusals::Refusal;
+use script_leaves::Tables;
 
 // Bitcoin's numbers of the opcodes that stand around children.
 const IF: u8 = 0x63;
@@ -61,17 +59,12 @@ const BOOLOR: u8 = 0x9b;
 
 const CHECKSIG: u8 = 0xac;
 
-// The number of an outcome and the bytes that it wrote.
-#[derive(Clone, Copy)]
-pub struct Given {
-    pub number: u32,
-    pub bytes: u64,
-}
-
 // Lays what stands before the first child.
+#[tactic(auto, unfolding(trees::specs::Tree::find))]
 fn put_front(out: &mut [u8], at: usize, kind: u16) -> usize
     ensures { Lays out.old out.new at (front kind) result }
 {
+    // A kind stays a number: a record or a node holds one, and the contract answers on every number.
     match kind {
         42 => script_leaves::put(out, at, TOALTSTACK),
         43 => script_leaves::put(out, at, SWAP),
@@ -86,28 +79,27 @@ fn put_front(out: &mut [u8], at: usize, kind: u16) -> usize
 }
 
 // Lays what follows child number j.
+#[tactic(auto, unfolding(trees::specs::Tree::find))]
 fn put_after(out: &mut [u8], at: usize, kind: u16, j: usize) -> usize
     ensures { Lays out.old out.new at (after kind j) result }
 {
     if j == 0 {
         return put_after_first(out, at, kind);
     }
+    // A kind stays a number: a record or a node holds one, and the contract answers on every number.
     match kind {
-        55 => {
-            if j == 1 {
-                return script_leaves::put(out, at, ELSE);
-            }
-            at
-        }
+        55 if j == 1 => script_leaves::put(out, at, ELSE),
         56 => script_leaves::put(out, at, ADD),
         _ => at,
     }
 }
 
 // Lays what follows the first child.
+#[tactic(auto, unfolding(trees::specs::Tree::find))]
 fn put_after_first(out: &mut [u8], at: usize, kind: u16) -> usize
     ensures { Lays out.old out.new at (after kind 0) result }
 {
+    // A kind stays a number: a record or a node holds one, and the contract answers on every number.
     match kind {
         52 => script_leaves::put_2(out, at, IFDUP, NOTIF),
         53 => script_leaves::put(out, at, NOTIF),
@@ -118,9 +110,11 @@ fn put_after_first(out: &mut [u8], at: usize, kind: u16) -> usize
 }
 
 // The opcode at the end of most fragments.
+#[tactic(auto, unfolding(trees::specs::Tree::find))]
 fn closing(kind: u16) -> u8
     ensures { result ≡ closing kind }
 {
+    // A kind stays a number: a record or a node holds one, and the contract answers on every number.
     match kind {
         42 => FROMALTSTACK,
         48 => ZERO_NOT_EQUAL,
@@ -131,9 +125,11 @@ fn closing(kind: u16) -> u8
 }
 
 // Lays what stands last.
+#[tactic(auto, unfolding(trees::specs::Tree::find))]
 fn put_last(out: &mut [u8], at: usize, kind: u16, k: u16, verified: bool) -> usize
     ensures { Lays out.old out.new at (last kind k verified) result }
 {
+    // A kind stays a number: a record or a node holds one, and the contract answers on every number.
     match kind {
         43 => at,
         44 => script_leaves::put_test(out, at, CHECKSIG, verified),
@@ -145,18 +141,15 @@ fn put_last(out: &mut [u8], at: usize, kind: u16, k: u16, verified: bool) -> usi
 }
 
 // Whether a VERIFY follows child number j.
+#[tactic(auto, unfolding(trees::specs::Tree::find))]
 pub fn child_verified(kind: u16, j: usize, verified: bool) -> bool
     ensures { result ≡ child_verified kind j verified }
 {
+    // A kind stays a number: a record or a node holds one, and the contract answers on every number.
     match kind {
         43 => verified,
         46 => true,
-        50 => {
-            if j == 1 {
-                return verified;
-            }
-            false
-        }
+        50 => j == 1 && verified,
         _ => false,
     }
 }
@@ -165,15 +158,12 @@ pub fn child_verified(kind: u16, j: usize, verified: bool) -> bool
 pub fn place(kind: u16, j: usize) -> usize
     ensures { result ≡ place kind j }
 {
-    if kind == 55 {
-        if j == 1 {
-            return 2;
-        }
-        if j == 2 {
-            return 1;
-        }
+    // A kind stays a number: a record or a node holds one, and the contract answers on every number.
+    match (kind, j) {
+        (55, 1) => 2,
+        (55, 2) => 1,
+        _ => j,
     }
-    j
 }
 
 // Lays the leaf of record i.
@@ -182,34 +172,19 @@ fn lay_leaf_at(
     at: usize,
     context: Context,
     tree: &[u8],
-    keys: &[u8],
-    key_hashes: &[u8],
-    hashes32: &[u8],
-    hashes20: &[u8],
+    tables: Tables<'_>,
     starts: &[u64],
     i: usize,
     verified: bool,
 ) -> usize
     requires { Placed tree.now starts.now i
-        × (has_entries context (tables keys.now key_hashes.now hashes32.now hashes20.now)
-        (leaf_of (record_at tree.now i)) ≡ true) }
-    ensures { Lays out.old out.new at (bytes_of context
-        (tables keys.now key_hashes.now hashes32.now hashes20.now)
-        verified (leaf_of (record_at tree.now i))) result }
+        × (has_entries context (lent tables) (leaf_of (record_at tree.now i)) ≡ true) }
+    ensures { Lays out.old out.new at
+        (bytes_of context (lent tables.entry) verified (leaf_of (record_at tree.now i))) result }
 {
     let start = starts[i] as usize;
     let end = walk::record_end(tree, start);
-    script_leaves::lay_leaf(
-        out,
-        at,
-        context,
-        &tree[start..end],
-        keys,
-        key_hashes,
-        hashes32,
-        hashes20,
-        verified,
-    )
+    script_leaves::lay_leaf(out, at, context, &tree[start..end], tables, verified)
 }
 
 // Lays the fragment of record i.
@@ -218,56 +193,37 @@ fn lay_record(
     at: usize,
     context: Context,
     tree: &[u8],
-    keys: &[u8],
-    key_hashes: &[u8],
-    hashes32: &[u8],
-    hashes20: &[u8],
+    tables: Tables<'_>,
     starts: &[u64],
     i: usize,
     verified: bool,
 ) -> usize
-    requires { Ready context (tables keys.now key_hashes.now hashes32.now hashes20.now) tree.now starts.now i }
-    ensures { Lays out.old out.new at (bytes_of context
-        (tables keys.now key_hashes.now hashes32.now hashes20.now)
-        verified (fragment_at tree.now i)) result }
+    requires { Ready context (lent tables) tree.now starts.now i }
+    ensures { Lays out.old out.new at (bytes_of context (lent tables.entry) verified (fragment_at tree.now i)) result }
 {
     let node = walk::node_at(tree, starts, i);
     let kind = node.kind;
     let n = node.n;
     if n == 0 {
-        return lay_leaf_at(
-            out, at, context, tree, keys, key_hashes, hashes32, hashes20, starts, i, verified,
-        );
+        return lay_leaf_at(out, at, context, tree, tables, starts, i, verified);
     }
     let children = node.children;
     let mut to = put_front(out, at, kind);
-    let mut j = 0;
-    while j < n {
+    for j in 0..n {
         let child = children[place(kind, j)] as usize;
         let end = lay_record(
             out,
             to,
             context,
             tree,
-            keys,
-            key_hashes,
-            hashes32,
-            hashes20,
+            tables,
             starts,
             child,
             child_verified(kind, j, verified),
         );
         to = put_after(out, end, kind, j);
-        j += 1;
     }
     put_last(out, to, kind, node.k, verified)
-}
-
-// Both of two.
-fn both(a: bool, b: bool) -> bool
-    ensures { result ≡ a && b }
-{
-    a && b
 }
 
 // Whether a table with entries of `size` bytes has all of entry i.
@@ -293,97 +249,61 @@ fn has_keys(context: Context, keys: &[u8], bytes: &[u8]) -> bool
     ensures { result ≡ has_keys context (only_keys keys.now) (keys_in bytes.now) }
 {
     let count = records::count_of(bytes);
-    let mut all = true;
-    let mut j = 0;
-    while j < count {
+    for j in 0..count {
         let i = records::key_at(bytes, j);
-        all = both(all, has_key(context, keys, i));
-        j += 1;
+        if !has_key(context, keys, i) {
+            return false;
+        }
     }
-    all
+    true
 }
 
 // Whether the numbers that stand in a record itself have whole entries.
-fn own_entries(
-    context: Context,
-    bytes: &[u8],
-    keys: &[u8],
-    key_hashes: &[u8],
-    hashes32: &[u8],
-    hashes20: &[u8],
-) -> bool
-    ensures { result ≡ has_entries context
-        (tables keys.now key_hashes.now hashes32.now hashes20.now)
-        (leaf_of bytes.now) }
+#[tactic(auto, unfolding(trees::specs::Tree::find, script_leaves::specs::Leaves::numbered, script_leaves::specs::Leaves::leaf_of, script_bytes::specs::ScriptOf::has_entries,))]
+fn own_entries(context: Context, bytes: &[u8], tables: Tables<'_>) -> bool
+    ensures { result ≡ has_entries context (lent tables.entry) (leaf_of bytes.now) }
 {
     let n = records::number_of(bytes);
+    // A kind stays a number: a record or a node holds one, and the contract answers on every number.
     match records::kind_of(bytes) {
-        34 => has_key(context, keys, n),
-        35 => has_entry(key_hashes, 20, n),
-        38 => has_entry(hashes32, 32, n),
-        39 => has_entry(hashes32, 32, n),
-        40 => has_entry(hashes20, 20, n),
-        41 => has_entry(hashes20, 20, n),
-        57 => has_keys(context, keys, bytes),
-        58 => has_keys(context, keys, bytes),
+        34 => has_key(context, tables.keys, n),
+        35 => has_entry(tables.key_hashes, 20, n),
+        38..=39 => has_entry(tables.hashes32, 32, n),
+        40..=41 => has_entry(tables.hashes20, 20, n),
+        57 => has_keys(context, tables.keys, bytes),
+        58 => has_keys(context, tables.keys, bytes),
         _ => true,
     }
 }
 
 // Whether the numbers that stand in record i have whole entries.
-fn entries_at(
-    context: Context,
-    tree: &[u8],
-    keys: &[u8],
-    key_hashes: &[u8],
-    hashes32: &[u8],
-    hashes20: &[u8],
-    starts: &[u64],
-    i: usize,
-) -> bool
+fn entries_at(context: Context, tree: &[u8], tables: Tables<'_>, starts: &[u64], i: usize) -> bool
     requires { Placed tree.now starts.now i }
-    ensures { result ≡ has_entries context
-        (tables keys.now key_hashes.now hashes32.now hashes20.now)
-        (leaf_of (record_at tree.now i)) }
+    ensures { result ≡ has_entries context (lent tables.entry) (leaf_of (record_at tree.now i)) }
 {
     let start = starts[i] as usize;
     let end = walk::record_end(tree, start);
-    own_entries(
-        context,
-        &tree[start..end],
-        keys,
-        key_hashes,
-        hashes32,
-        hashes20,
-    )
+    own_entries(context, &tree[start..end], tables)
 }
 
 // Whether the numbers of each of `count` records have whole entries.
 pub fn all_entries(
     context: Context,
     tree: &[u8],
-    keys: &[u8],
-    key_hashes: &[u8],
-    hashes32: &[u8],
-    hashes20: &[u8],
+    tables: Tables<'_>,
     starts: &[u64],
     count: usize,
 ) -> bool
     requires { AllPlaced tree.now starts.now (count - 1) }
-    ensures { result ≡ entries_below context
-        (tables keys.now key_hashes.now hashes32.now hashes20.now)
-        tree.now count }
+    ensures { result ≡ entries_below context (lent tables.entry) tree.now count }
 {
-    let mut all = true;
-    let mut i = 0;
-    while i < count {
-        let own = entries_at(
-            context, tree, keys, key_hashes, hashes32, hashes20, starts, i,
-        );
-        all = both(all, own);
-        i += 1;
+    for i in 0..count {
+        let own = entries_at(context, tree, tables, starts, i);
+        if !own {
+            return false;
+        }
     }
-    all
+    true
 }
 
 // Lays the script of record `root` if it fits: a run over no output measures it first.
@@ -391,78 +311,66 @@ fn lay_root(
     out: &mut [u8],
     context: Context,
     tree: &[u8],
-    keys: &[u8],
-    key_hashes: &[u8],
-    hashes32: &[u8],
-    hashes20: &[u8],
+    tables: Tables<'_>,
     starts: &[u64],
     root: usize,
-) -> Given
-    requires { Ready context (tables keys.now key_hashes.now hashes32.now hashes20.now) tree.now starts.now root }
-    ensures { Gives (fitting (length out.old) (script_bytes context
-        (tables keys.now key_hashes.now hashes32.now hashes20.now)
-        (fragment_at tree.now root))) out.old out.new result }
+) -> Result<usize, Refusal>
+    requires { Ready context (lent tables) tree.now starts.now root }
+    ensures { Gives (fitting (length out.old) (script_bytes context (lent tables.entry) (fragment_at tree.now root)))
+        out.old out.new result }
 {
     let n = lay_record(
         &mut out[0..0],
         0,
         context,
         tree,
-        keys,
-        key_hashes,
-        hashes32,
-        hashes20,
+        tables,
         starts,
         root,
         false,
     );
-    if n <= out.len() {
-        lay_record(
-            out, 0, context, tree, keys, key_hashes, hashes32, hashes20, starts, root, false,
-        );
-        return Given {
-            number: 0,
-            bytes: n as u64,
-        };
+    if out.len() < n {
+        return Err(Refusal::OutputTooSmall);
     }
-    Given {
-        number: OUTPUT_TOO_SMALL,
-        bytes: 0,
-    }
+    lay_record(out, 0, context, tree, tables, starts, root, false);
+    Ok(n)
 }
 
 // The script of a tree that the check passed.
 fn script_in(
     context: Context,
     tree: &[u8],
-    keys: &[u8],
-    key_hashes: &[u8],
-    hashes32: &[u8],
-    hashes20: &[u8],
+    tables: Tables<'_>,
     out: &mut [u8],
     work: &mut [u64],
-) -> Given
+) -> Result<usize, Refusal>
     requires { Written tree.now × (length work.old ≡ max_records) }
     ensures gives { (f : Fragment) → TreeRecords tree.now f
-        → Gives (script_in context
-        (tables keys.now key_hashes.now hashes32.now hashes20.now)
-        (length out.old) f) out.old out.new result }
+        → Gives (script_in context (lent tables.entry) (length out.old) f) out.old out.new result }
     ensures work_len_unchanged { length work.new ≡ length work.old }
 {
     let count = walk::scan(tree, work);
-    let all = all_entries(
-        context, tree, keys, key_hashes, hashes32, hashes20, work, count,
-    );
-    if all {
-        let root = count - 1;
-        return lay_root(
-            out, context, tree, keys, key_hashes, hashes32, hashes20, work, root,
-        );
+    let all = all_entries(context, tree, tables, work, count);
+    if !all {
+        return Err(Refusal::NoEntry);
     }
-    Given {
-        number: NO_ENTRY,
-        bytes: 0,
-    }
+    let root = count - 1;
+    lay_root(out, context, tree, tables, work, root)
+}
+
+// The script of a tree.
+fn script(
+    context: u32,
+    tree: &[u8],
+    tables: Tables<'_>,
+    out: &mut [u8],
+    work: &mut [u64],
+) -> Result<usize, Refusal>
+    ensures gives { Gives (script_of context tree.now (lent tables.entry) out.old work.old) out.old out.new result }
+    ensures work_len_unchanged { length work.new ≡ length work.old }
+{
+    trees::check(context, tree, work)?;
+    script_in(claspwillow::context_of(context), tree, tables, out, work)
 }
 
 // The script of a tree: the number of document 02, the script in `out`, and in `bytes` how many bytes it has, 0 on a refusal. Work memory is zero
@@ -482,25 +390,24 @@ pub fn claspwillow_script(
         (tables keys.now key_hashes.now hashes32.now hashes20.now)
         out.old work.old result out.new bytes.new work.new }
 {
-    let mut ty = 0;
-    let number = claspwillow::claspwillow_check(context, tree, work, &mut ty);
-    if number == 0 {
-        let r = script_in(
-            claspwillow::context_of(context),
-            tree,
-            keys,
-            key_hashes,
-            hashes32,
-            hashes20,
-            out,
-            work,
-        );
-        words::clear(work);
-        *bytes = r.bytes;
-        return r.number;
+    let tables = Tables {
+        keys,
+        key_hashes,
+        hashes32,
+        hashes20,
+    };
+    let r = script(context, tree, tables, out, work);
+    words::clear(work);
+    match r {
+        Ok(n) => {
+            *bytes = n as u64;
+            0
+        }
+        Err(e) => {
+            *bytes = 0;
+            e.number()
+        }
     }
-    *bytes = 0;
-    number
 }
 
 // The one length of work memory that the script's entry takes, in words.

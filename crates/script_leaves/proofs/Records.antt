@@ -3,7 +3,7 @@ use Prim.Native.Nat.{ℕ, zero, suc, ◌+◌, ◌-◌, ◌<◌, ◌≤◌}
 use mathlib.Core.Bool.{Bool, true, false}
 use mathlib.Core.List.{List, [], ◌∷◌}
 use mathlib.Core.Logic.{◌⊎◌, ⊎_elim}
-use mathlib.Core.Option.{some}
+use Rattle.std.specs.Prelude.{Some}
 use mathlib.Core.Path.{◌≡◌, refl, sym, ◌∙◌, ap}
 use native.Mathlib.Omega.{arith}
 use borrow.Author.Tests.{leb-true, leb-false}
@@ -13,7 +13,6 @@ use Rattle.records.specs.Payloads.{Payload, number_of, k_of, keys_of, payload_of
 use Rattle.records.specs.RecordForm.{kind_of, fragment_payload, payload_as}
 use Rattle.records.specs.Shapes.{shape_of}
 use Rattle.records.specs.declared.Shape.{Shape}
-use Rattle.records.specs.declared.Shape.TheVariants as Shape
 use Rattle.records.proofs.Laws.{fragment-record, is_number, is-lock, is-keys}
 use Rattle.records.proofs.Forms.{and_left, and_right}
 use Rattle.records.proofs.KindRanges.{shapes-in}
@@ -27,22 +26,22 @@ use Rattle.script_leaves.proofs.Leaves.{is-multi, is-multi-a, is-numbered}
 -- ---- the makers of leaves
 
 module _ (p : Payload) {f : Fragment} where
-  made_plain : (g : Fragment) (xs : List Fragment) → plain g p xs ≡ some f → g ≡ f
+  made_plain : (g : Fragment) (xs : List Fragment) → plain g p xs ≡ Some f → g ≡ f
   made_plain g [] e = cc
   made_plain g (x ∷ xs) e = cc
 
-  made-number : (g : ℕ → Fragment) (xs : List Fragment) → with_number g p xs ≡ some f → g (number_of p) ≡ f
+  made-number : (g : ℕ → Fragment) (xs : List Fragment) → with_number g p xs ≡ Some f → g (number_of p) ≡ f
   made-number g [] e = cc
   made-number g (x ∷ xs) e = cc
 
-  made-keys : (g : ℕ → List ℕ → Fragment) (xs : List Fragment) → of_keys g p xs ≡ some f → g (k_of p) (keys_of p) ≡ f
+  made-keys : (g : ℕ → List ℕ → Fragment) (xs : List Fragment) → of_keys g p xs ≡ Some f → g (k_of p) (keys_of p) ≡ f
   made-keys g [] e = cc
   made-keys g (x ∷ xs) e = cc
 
 -- ---- the payload by the kind
 
-module _ (bytes : Bytes) {p : Payload} (form : fragment_payload bytes ≡ some p) where
-  of-shape : (shape : Shape) → shape_of (kind_of bytes) ≡ some shape → payload_of shape bytes ≡ some p
+module _ (bytes : Bytes) {p : Payload} (form : fragment_payload bytes ≡ Some p) where
+  of-shape : (shape : Shape) → shape_of (kind_of bytes) ≡ Some shape → payload_of shape bytes ≡ Some p
   of-shape shape e = sym (ap (λ o. payload_as o bytes) e) ∙ (fragment-record bytes form).1
 
   one_number : 34 ≤ kind_of bytes → kind_of bytes ≤ 41 → number_of p ≡ number_in bytes
@@ -65,20 +64,20 @@ module _ (bytes : Bytes) {p : Payload} (form : fragment_payload bytes ≡ some p
 
   -- ---- a kind at a time
 
-  module _ (xs : List Fragment) {f : Fragment} (made : fragment_of (kind_of bytes) p xs ≡ some f) where
-    made_at : (kind : ℕ) → kind_of bytes ≡ kind → fragment_of kind p xs ≡ some f
+  module _ (xs : List Fragment) {f : Fragment} (made : fragment_of (kind_of bytes) p xs ≡ Some f) where
+    made_at : (kind : ℕ) → kind_of bytes ≡ kind → fragment_of kind p xs ≡ Some f
     made_at kind e = sym (ap (λ (k : ℕ). fragment_of k p xs) e) ∙ made
 
-    of_plain : (g : Fragment) → kind_of bytes < 57 → numbered (kind_of bytes) (number_in bytes) ≡ g → plain g p xs ≡ some f → leaf_of bytes ≡ f
+    of_plain : (g : Fragment) → kind_of bytes < 57 → numbered (kind_of bytes) (number_in bytes) ≡ g → plain g p xs ≡ Some f → leaf_of bytes ≡ f
     of_plain g l s m = is-numbered bytes (λ e. omega arith) (λ e. omega arith) ∙ s ∙ made_plain p g xs m
 
     of_number : (g : ℕ → Fragment) → 34 ≤ kind_of bytes → kind_of bytes ≤ 41 → numbered (kind_of bytes) (number_in bytes) ≡ g (number_in bytes)
-        → with_number g p xs ≡ some f → leaf_of bytes ≡ f
+        → with_number g p xs ≡ Some f → leaf_of bytes ≡ f
     of_number g l h s m =
         is-numbered bytes (λ e. omega arith) (λ e. omega arith) ∙ s ∙ sym (ap g (one_number l h)) ∙ made-number p g xs m
 
     of-keys : (g : ℕ → List ℕ → Fragment) → 57 ≤ kind_of bytes → kind_of bytes ≤ 58 → leaf_of bytes ≡ g (k_in bytes) (keys_in bytes)
-        → of_keys g p xs ≡ some f → leaf_of bytes ≡ f
+        → of_keys g p xs ≡ Some f → leaf_of bytes ≡ f
     of-keys g l h s m =
         let both = some-keys l h in
         s ∙ sym (ap (λ (k : ℕ). g k (keys_in bytes)) both.0) ∙ sym (ap (g (k_of p)) both.1) ∙ made-keys p g xs m

@@ -1,6 +1,5 @@
 -- The fragment that a record without children makes: document 01, "Records".
-use Rattle.std.specs.Prelude.{ℕ, List, [], ◌∷◌}
-use Rattle.std.proofs.Math.Option.{Option, none, some}
+use Rattle.std.specs.Prelude.{ℕ, [], ◌∷◌, Option, None, Some}
 use Rattle.records.specs.Payloads.{number_in, k_in, keys_in}
 use Rattle.records.specs.RecordForm.{kind_of}
 use Rattle.contexts.specs.Leaves.{After, Older, Sha256, Hash256, Ripemd160, Hash160}
@@ -9,8 +8,8 @@ use Rattle.trees.specs.Tree.{◌is◌, find}
 use Rattle.script_machine.specs.Numbers.{Bytes}
 
 abbrev pub or_else : Fragment → Option Fragment → Fragment
-or_else other (some f) = f
-or_else other none = other
+or_else other (Some f) = f
+or_else other None = other
 
 -- Multi and MultiA
 abbrev pub multi_of : (bytes : Bytes) → Fragment

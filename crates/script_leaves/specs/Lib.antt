@@ -1,3 +1,4 @@
 -- What the contracts of this crate say, in reading order.
 pub mod Laying
+pub mod Lent
 pub mod Leaves

@@ -1,25 +1,23 @@
 // Laying the bytes of a script in an output: one byte, an opcode with the VERIFY that follows it, pushes of numbers and of table entries,
 // and every fragment that has no children.
 //
-// Its contracts cite `specs/Laying.antt` (where bytes are laid and end) and `specs/Leaves.antt` (the fragment of a record), and from
-// `script_bytes` the bytes themselves. The laws that compose them stand in `proofs/Laws.antt`.
+// Its contracts cite `specs/Laying.antt` (where bytes are laid and end), `specs/Lent.antt` (what the tables lent hold) and
+// `specs/Leaves.antt` (the fragment of a record), and from `script_bytes` the bytes themselves. The laws that compose them stand in `proofs/Laws.antt`.
 #![tactic(auto)]
 
 ghost use Rattle.std.specs.Prelude.{◌≡◌, true, [], ◌∷◌, ◌++◌, ◌+◌, ◌<◌};
 ghost use Rattle.words.specs.Bytes as Little;
 ghost use Rattle.records.specs.Payloads.{first_keys, keys_in};
-ghost use Rattle.script_bytes.specs.Tables.{tables, entry, whole, key_size, key_hash_size};
+ghost use Rattle.script_bytes.specs.Tables.{entry, whole, key_size, key_hash_size};
 ghost use Rattle.script_bytes.specs.Encoding.{push_bytes};
 ghost use Rattle.script_bytes.specs.ScriptOf.{has_keys, has_entries};
 ghost use Rattle.script_bytes.specs.Layout.{verify_byte, test_byte, number_bytes, bytes_of, keys_bytes, sig_sum_bytes};
 ghost use Rattle.script_leaves.specs.Laying.{clip, Lays, EntrySize, only_keys};
+ghost use Rattle.script_leaves.specs.Lent.{lent};
 ghost use Rattle.script_leaves.specs.Leaves.{numbered, leaf_of, multi_of, multi_a_of};
 
 use contexts::Context;
 use records::{count_of, k_of, key_at, kind_of, number_of};
-
-// The largest position.
-const MAX_POSITION: usize = 18446744073709551615;
 
 // Bitcoin's numbers of the opcodes that are laid here.
 const OP_0: u8 = 0x00;
@@ -56,18 +54,23 @@ const CHECKSEQUENCEVERIFY: u8 = 0xb2;
 
 const CHECKSIGADD: u8 = 0xba;
 
-// Lays one byte.
+// The tables that a caller lends: its keys, the keys' hashes, and hashes of 32 and of 20 bytes.
+#[derive(Clone, Copy)]
+pub struct Tables<'a> {
+    pub keys: &'a [u8],
+    pub key_hashes: &'a [u8],
+    pub hashes32: &'a [u8],
+    pub hashes20: &'a [u8],
+}
+
+// Lays one byte. The largest position is the largest number.
 pub fn put(out: &mut [u8], at: usize, b: u8) -> usize
     ensures { Lays out.old out.new at (b ∷ []) result }
 {
     if at < out.len() {
         out[at] = b;
-        return at + 1;
     }
-    if at < MAX_POSITION {
-        return at + 1;
-    }
-    at
+    at.saturating_add(1)
 }
 
 // Lays two bytes.
@@ -113,11 +116,9 @@ fn put_little(out: &mut [u8], at: usize, n: u32, width: usize) -> usize
 {
     let mut to = at;
     let mut rest = n;
-    let mut i = 0;
-    while i < width {
+    for i in 0..width {
         to = put(out, to, (rest % 256) as u8);
-        rest = rest / 256;
-        i += 1;
+        rest /= 256;
     }
     to
 }
@@ -171,10 +172,8 @@ pub fn put_bytes(out: &mut [u8], at: usize, bytes: &[u8]) -> usize
     ensures { Lays out.old out.new at bytes.now result }
 {
     let mut to = at;
-    let mut i = 0;
-    while i < bytes.len() {
-        to = put(out, to, bytes[i]);
-        i += 1;
+    for byte in bytes {
+        to = put(out, to, *byte);
     }
     to
 }
@@ -279,28 +278,24 @@ fn lay_numbered(
     context: Context,
     kind: u16,
     n: u64,
-    keys: &[u8],
-    key_hashes: &[u8],
-    hashes32: &[u8],
-    hashes20: &[u8],
+    tables: Tables<'_>,
     verified: bool,
 ) -> usize
-    requires { (has_entries context (tables keys.now key_hashes.now hashes32.now hashes20.now) (numbered kind n) ≡ true)
+    requires { (has_entries context (lent tables) (numbered kind n) ≡ true)
         × (35 < kind → kind < 38 → n < 4294967296) }
-    ensures { Lays out.old out.new at
-        (bytes_of context (tables keys.now key_hashes.now hashes32.now hashes20.now) verified
-        (numbered kind n)) result }
+    ensures { Lays out.old out.new at (bytes_of context (lent tables.entry) verified (numbered kind n)) result }
 {
+    // A kind stays a number: a record or a node holds one, and the contract answers on every number.
     match kind {
         33 => put_op(out, at, OP_1, verified),
-        34 => lay_pk_k(out, at, context, keys, n, verified),
-        35 => lay_pk_h(out, at, key_hashes, n, verified),
+        34 => lay_pk_k(out, at, context, tables.keys, n, verified),
+        35 => lay_pk_h(out, at, tables.key_hashes, n, verified),
         36 => lay_lock(out, at, CHECKLOCKTIMEVERIFY, n as u32, verified),
         37 => lay_lock(out, at, CHECKSEQUENCEVERIFY, n as u32, verified),
-        38 => lay_hash(out, at, SHA256, 32, hashes32, n, verified),
-        39 => lay_hash(out, at, HASH256, 32, hashes32, n, verified),
-        40 => lay_hash(out, at, RIPEMD160, 20, hashes20, n, verified),
-        41 => lay_hash(out, at, HASH160, 20, hashes20, n, verified),
+        38 => lay_hash(out, at, SHA256, 32, tables.hashes32, n, verified),
+        39 => lay_hash(out, at, HASH256, 32, tables.hashes32, n, verified),
+        40 => lay_hash(out, at, RIPEMD160, 20, tables.hashes20, n, verified),
+        41 => lay_hash(out, at, HASH160, 20, tables.hashes20, n, verified),
         _ => put_op(out, at, OP_0, verified),
     }
 }
@@ -319,11 +314,8 @@ fn put_keys(
         (keys_bytes context (only_keys keys.now) (first_keys bytes.now count)) result }
 {
     let mut to = at;
-    let mut j = 0;
-    while j < count {
-        let i = key_at(bytes, j);
-        to = put_key(out, to, context, keys, i);
-        j += 1;
+    for j in 0..count {
+        to = put_key(out, to, context, keys, key_at(bytes, j));
     }
     to
 }
@@ -343,13 +335,10 @@ fn put_sig_sum(
 {
     let mut to = at;
     let mut opcode = CHECKSIG;
-    let mut j = 0;
-    while j < count {
-        let i = key_at(bytes, j);
-        let next = put_key(out, to, context, keys, i);
+    for j in 0..count {
+        let next = put_key(out, to, context, keys, key_at(bytes, j));
         to = put(out, next, opcode);
         opcode = CHECKSIGADD;
-        j += 1;
     }
     to
 }
@@ -399,26 +388,20 @@ pub fn lay_leaf(
     at: usize,
     context: Context,
     bytes: &[u8],
-    keys: &[u8],
-    key_hashes: &[u8],
-    hashes32: &[u8],
-    hashes20: &[u8],
+    tables: Tables<'_>,
     verified: bool,
 ) -> usize
-    requires { has_entries context (tables keys.now key_hashes.now hashes32.now hashes20.now) (leaf_of bytes.now) ≡ true }
-    ensures { Lays out.old out.new at
-        (bytes_of context (tables keys.now key_hashes.now hashes32.now hashes20.now) verified
-        (leaf_of bytes.now)) result }
+    requires { has_entries context (lent tables) (leaf_of bytes.now) ≡ true }
+    ensures { Lays out.old out.new at (bytes_of context (lent tables.entry) verified (leaf_of bytes.now)) result }
 {
     let kind = kind_of(bytes);
+    // A kind stays a number: a record or a node holds one, and the contract answers on every number.
     match kind {
-        57 => lay_multi(out, at, context, keys, bytes, verified),
-        58 => lay_multi_a(out, at, context, keys, bytes, verified),
+        57 => lay_multi(out, at, context, tables.keys, bytes, verified),
+        58 => lay_multi_a(out, at, context, tables.keys, bytes, verified),
         _ => {
             let n = number_of(bytes);
-            lay_numbered(
-                out, at, context, kind, n, keys, key_hashes, hashes32, hashes20, verified,
-            )
+            lay_numbered(out, at, context, kind, n, tables, verified)
         }
     }
 }

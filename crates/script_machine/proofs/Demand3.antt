@@ -1,4 +1,5 @@
 -- Demand 3 is proved.
+use Rattle.std.specs.Prelude.{Ok}
 use mathlib.Core.List.{[], ◌++◌}
 use mathlib.Core.Logic.{◌⊎◌, inl, inr}
 use mathlib.Core.Path.{◌≡◌, refl}
@@ -6,7 +7,6 @@ use lib.ListN.{length}
 use Rattle.correctness.specs.declared.Base.{Base}
 use Rattle.correctness.specs.declared.Base.TheVariants.{B}
 use Rattle.types.specs.declared.«Type».{«Type»}
-use Rattle.types.specs.declared.TypeResult.TheVariants.{Ok}
 use Rattle.contexts.specs.declared.Context.{Context}
 use Rattle.trees.specs.Fragment.{Fragment}
 use Rattle.trees.specs.Typing.{type_of}

@@ -1,10 +1,10 @@
 -- Every tree does what its type says.
+use Rattle.correctness.specs.declared.TypeError.TheVariants as TypeError
+use Rattle.correctness.specs.declared.TypeError.{TypeError}
 use Prim.Native.Nat.{ℕ}
 use mathlib.Core.List.{List}
-use mathlib.Core.Option.{Option, none, some}
+use Rattle.std.specs.Prelude.{Option, None, Some, Result, Ok, Err}
 use Rattle.types.specs.declared.«Type».{«Type»}
-use Rattle.types.specs.declared.TypeResult.{TypeResult}
-use Rattle.types.specs.declared.TypeResult.TheVariants.{Ok, IllTyped}
 use Rattle.types.specs.TypeRules as rule
 use Rattle.contexts.specs.declared.Context.{Context}
 use Rattle.contexts.specs.declared.Context.TheVariants.{Segwitv0, Tap}
@@ -22,12 +22,12 @@ use Rattle.script_machine.proofs.Threshold.{Each, thresh-good}
 
 -- a rule of one, two or three children that are well-typed
 module _ (o : Outcomes) where
-  one : (r : TypeResult) (k : «Type» → TypeResult) (g h : Action) → Good o r g → ((t : «Type») → Sound o t.corr g → Good o (k t) h)
+  one : (r : Result «Type» TypeError) (k : «Type» → Result «Type» TypeError) (g h : Action) → Good o r g → ((t : «Type») → Sound o t.corr g → Good o (k t) h)
       → Good o (r >>= k) h
   one (Ok t) k g h p f = f t p
-  one IllTyped k g h p f = tt
+  one (Err TypeError.IllTyped) k g h p f = tt
 
-  two : (r s : TypeResult) (k : «Type» → «Type» → TypeResult) (g h i : Action) → Good o r g → Good o s h
+  two : (r s : Result «Type» TypeError) (k : «Type» → «Type» → Result «Type» TypeError) (g h i : Action) → Good o r g → Good o s h
       → ((t u : «Type») → Sound o t.corr g → Sound o u.corr h → Good o (k t u) i)
       → Good o (r >>= λ t. s >>= λ u. k t u) i
   two r s k g h i p q f = one r (λ t. s >>= λ u. k t u) g i p λ t x. one s (k t) h i q λ u y. f t u x y
@@ -43,19 +43,19 @@ module _ (c : Context) (o : Outcomes) where
 
   -- the children of a Thresh
   abbrev EachTyped : Option (List «Type») → Fragments → Type 0
-  EachTyped (some ts) xs = Each c o ts xs
-  EachTyped none xs = Unit {0}
+  EachTyped (Some ts) xs = Each c o ts xs
+  EachTyped None xs = Unit {0}
 
-  each_more : (r : TypeResult) (ts : Option (List «Type»)) (x : Fragment) (xs : Fragments) → Good o r (meaning c o x) → EachTyped ts xs
+  each_more : (r : Result «Type» TypeError) (ts : Option (List «Type»)) (x : Fragment) (xs : Fragments) → Good o r (meaning c o x) → EachTyped ts xs
       → EachTyped (and_all r ts) (x ▹ xs)
-  each_more (Ok t) (some ts) x xs h k = (h, k)
-  each_more (Ok t) none x xs h k = tt
-  each_more IllTyped ts x xs h k = tt
+  each_more (Ok t) (Some ts) x xs h k = (h, k)
+  each_more (Ok t) None x xs h k = tt
+  each_more (Err TypeError.IllTyped) ts x xs h k = tt
 
   thresh : (k : ℕ) (ts : Option (List «Type»)) (xs : Fragments) → EachTyped ts xs
       → Good o (all_typed ts λ ts. rule.threshold k ts) (meaning c o (Thresh k xs))
-  thresh k (some ts) xs h = thresh-good c o k ts xs h
-  thresh k none xs h = tt
+  thresh k (Some ts) xs h = thresh-good c o k ts xs h
+  thresh k None xs h = tt
 
   mutual
     unfolding type_of types_of

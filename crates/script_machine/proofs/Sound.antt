@@ -1,4 +1,8 @@
 -- What the type of a fragment says about its meaning, for each base.
+use Rattle.types.specs.declared.«Type».{«Type»}
+use Rattle.correctness.specs.declared.TypeError.TheVariants as TypeError
+use Rattle.correctness.specs.declared.TypeError.{TypeError}
+use Rattle.std.specs.Prelude.{Result, Ok, Err}
 use mathlib.Core.Bool.{Bool, true, false, not, false≢true}
 use mathlib.Core.List.{[], ◌∷◌, ◌++◌}
 use mathlib.Core.Logic.{◌⊎◌, inl, inr}
@@ -9,8 +13,6 @@ use Rattle.correctness.specs.declared.Base.TheVariants.{B, K, «V», W}
 use Rattle.correctness.specs.declared.Input.{Input}
 use Rattle.correctness.specs.declared.Correctness.{Correctness}
 use Rattle.malleability.specs.declared.Malleability.{Malleability}
-use Rattle.types.specs.declared.TypeResult.{TypeResult}
-use Rattle.types.specs.declared.TypeResult.TheVariants.{Ok, IllTyped}
 use Rattle.correctness.specs.Letters.{is_w, base_eq}
 use Rattle.correctness.specs.CorrectnessRules.{ok_if}
 use Rattle.types.specs.TypeRules.{typed}
@@ -68,9 +70,9 @@ module _ (o : Outcomes) where
   Sound c g = SoundAt c.base c.input c.unit g
 
   -- of a tree that is ill-typed, nothing
-  abbrev pub Good : TypeResult → Action → Type 0
+  abbrev pub Good : Result «Type» TypeError → Action → Type 0
   Good (Ok t) g = Sound t.corr g
-  Good IllTyped g = Unit {0}
+  Good (Err TypeError.IllTyped) g = Unit {0}
 
 module _ {o : Outcomes} where
   pub post : {b : Base} {i : Input} {u : Bool} {xs ys : Stack} → Size (ones b) i (length xs) → Top o u b ys → Post o b i u xs ys

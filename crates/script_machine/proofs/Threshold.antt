@@ -1,4 +1,6 @@
 -- Thresh does what its type says, where its children do.
+use Rattle.correctness.specs.declared.TypeError.{TypeError}
+use Rattle.std.specs.Prelude.{Result}
 use Prim.Native.Nat.{ℕ, ◌+◌}
 use native.Mathlib.Omega.{arith}
 use mathlib.Core.Bool.{Bool, true, false, ◌&&◌}
@@ -9,7 +11,6 @@ use lib.ListN.{length, length-append}
 use Rattle.correctness.specs.declared.Base.TheVariants.{B, W}
 use Rattle.correctness.specs.declared.Correctness.{Correctness}
 use Rattle.types.specs.declared.«Type».{«Type»}
-use Rattle.types.specs.declared.TypeResult.{TypeResult}
 use Rattle.correctness.specs.Letters.{is_b, is_w}
 use Rattle.contexts.specs.Lists.{all, sum}
 use Rattle.correctness.specs.CorrectnessRules.{first_b, num_args}
@@ -54,7 +55,7 @@ adds-more t n zs l us ws q =
       is = q.is;
     }
 
-typed_if-good : (o : Outcomes) (q : Bool) (r : TypeResult) (g : Action) → (q ≡ true → Good o r g) → Good o (typed_if q r) g
+typed_if-good : (o : Outcomes) (q : Bool) (r : Result «Type» TypeError) (g : Action) → (q ≡ true → Good o r g) → Good o (typed_if q r) g
 typed_if-good o true r g h = h refl
 typed_if-good o false r g h = tt
 

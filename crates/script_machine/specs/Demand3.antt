@@ -1,10 +1,8 @@
 -- Demand 3: what the script of a tree does that the tree check passes as base B, whatever the outcomes, the starting stack and the alternate
 -- stack. Written from document 01, "What a fragment's script does".
-use Rattle.std.specs.Prelude.{ℕ, true, List, [], ◌∷◌, ◌++◌, ◌⊎◌, ◌≡◌, length}
-use Rattle.std.proofs.Math.Option.{some}
+use Rattle.std.specs.Prelude.{ℕ, true, List, [], ◌∷◌, ◌++◌, ◌⊎◌, ◌≡◌, length, Some, Ok}
 use Rattle.correctness.specs.declared.Base.TheVariants.{B}
 use Rattle.types.specs.declared.«Type».{«Type»}
-use Rattle.types.specs.declared.TypeResult.TheVariants.{Ok}
 use Rattle.correctness.specs.Letters.{is_zero, is_one}
 use Rattle.contexts.specs.declared.Context.{Context}
 use Rattle.trees.specs.Fragment.{Fragment}
@@ -40,5 +38,5 @@ OfTrees =
 abbrev pub Demand3 : Type 0
 Demand3 =
     (context : ℕ) (c : Context) (bytes : List ℕ) (x : Typed)
-    → context_of context ≡ some c → check_of context bytes max_records ≡ done x → x.type.corr.base ≡ B
+    → context_of context ≡ Some c → check_of context bytes max_records ≡ done x → x.type.corr.base ≡ B
     → (o : Outcomes) (m : Stack) → Aborts c o x.tree m ⊎ Pushes c o x.tree x.type m

@@ -1,8 +1,7 @@
 -- What the script of a well-typed tree of base V, K or W does, from document 01, "What a fragment's script does", its last paragraph.
-use Rattle.std.specs.Prelude.{ℕ, true, [], ◌∷◌, ◌++◌, ◌⊎◌, ◌≡◌, length}
+use Rattle.std.specs.Prelude.{ℕ, true, [], ◌∷◌, ◌++◌, ◌⊎◌, ◌≡◌, length, Ok}
 use Rattle.correctness.specs.declared.Base.TheVariants.{K, «V», W}
 use Rattle.types.specs.declared.«Type».{«Type»}
-use Rattle.types.specs.declared.TypeResult.TheVariants.{Ok}
 use Rattle.correctness.specs.Letters.{is_zero, is_one}
 use Rattle.contexts.specs.declared.Context.{Context}
 use Rattle.trees.specs.Fragment.{Fragment}

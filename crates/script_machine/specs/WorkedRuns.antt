@@ -1,6 +1,6 @@
 -- Worked runs: what scripts do on given stacks, satisfied, dissatisfied and aborting, for a reader who knows Bitcoin Script.
-use Rattle.std.specs.Prelude.{ℕ, Bool, true, false, ◌&&◌, cond, List, [], ◌∷◌, ◌++◌, ◌≡◌, leb, ℤ, pos, negsuc, replicate}
-use Rattle.types.specs.declared.TypeResult.TheVariants.{IllTyped}
+use Rattle.correctness.specs.declared.TypeError.TheVariants as TypeError
+use Rattle.std.specs.Prelude.{ℕ, Bool, true, false, ◌&&◌, cond, List, [], ◌∷◌, ◌++◌, ◌≡◌, leb, ℤ, pos, negsuc, replicate, Err}
 use Rattle.contexts.specs.declared.Context.{Context}
 use Rattle.contexts.specs.declared.Context.TheVariants.{Segwitv0, Tap}
 use Rattle.trees.specs.Fragment.{Fragment, end, ◌▹◌, Lock, Hash}
@@ -218,8 +218,8 @@ WorkedRuns = (c : Context) → all_hold c (cases ++ cases_in c) ≡ true
 -- Why a NonZero must have a child that is n: over one that removes none it reads an element that it then leaves or not, as it finds it.
 -- Why a Thresh must have W after its first child: two B sign in turn, and the second takes the first one's answer for its signature.
 pub record Counterexamples (c : Context) : Type 0 where
-  pub non_zero_over_z : type_of c (NonZero True) ≡ IllTyped
+  pub non_zero_over_z : type_of c (NonZero True) ≡ Err TypeError.IllTyped
   pub leaves_one : from c (script (NonZero True)) (no ∷ []) ≡ state (no ∷ below) below []
   pub leaves_two : from c (script (NonZero True)) ((5 ∷ []) ∷ []) ≡ state (yes ∷ (5 ∷ []) ∷ below) below []
-  pub thresh_over_b : type_of c (Thresh 2 (pk 1 ▹ pk 2 ▹ end)) ≡ IllTyped
+  pub thresh_over_b : type_of c (Thresh 2 (pk 1 ▹ pk 2 ▹ end)) ≡ Err TypeError.IllTyped
   pub both_signed : from c (script (Thresh 2 (pk 1 ▹ pk 2 ▹ end))) (sig 1 ∷ sig 2 ∷ []) ≡ state (no ∷ below) below []

@@ -11,7 +11,7 @@ ghost use Rattle.script_view.specs.Lines.{pushed, word_end};
 use columns::{say_left, say_letters, say_right, say_spaces};
 use report::say;
 use std::io;
-use types::{Type, Unpacked};
+use types::Type;
 
 // The places of a byte's number in a script; of the numbers that follow a push's name and a small number's; of a type's letters; of a height; of a
 // number of bytes.
@@ -123,6 +123,7 @@ fn say_word(rt: &impl Print, tree: &[u8], index: &[u8], at: usize, bytes: &[u8])
 fn say_words(rt: &impl Print, tree: &[u8], index: &[u8], script: &[u8]) -> io::Result<()> {
     say(rt, b" offset  op  word                    record\n")?;
     let mut at = 0;
+    // A `while`, since words are of unequal length.
     while at < script.len() {
         let end = word_end(script, at);
         say_word(rt, tree, index, at, &script[at..end])?;
@@ -146,14 +147,14 @@ pub fn show_words<R: Print + Eprint>(rt: &R, tree: &[u8], index: &[u8], script: 
 // Writes the letters of a packed type.
 fn say_type(rt: &impl Print, packed: u32) -> io::Result<()> {
     match Type::unpack(packed) {
-        Unpacked::Is(t) => {
+        Some(t) => {
             let mut corr = names::correctness_letters(t.corr);
             let mut mall = names::malleability_letters(t.mall);
             say_letters(rt, &mut corr, CORRECTNESS_PLACES)?;
             say(rt, b" ")?;
             say_letters(rt, &mut mall, MALLEABILITY_PLACES)
         }
-        Unpacked::NotAType => Ok(()),
+        None => Ok(()),
     }
 }
 

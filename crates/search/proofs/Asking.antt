@@ -1,12 +1,11 @@
 -- What a search asks for weighs less than its policy, and can be written as records too; and the places of the pairings. Assumes nothing.
+use Rattle.std.specs.Prelude.{Option, None, Some}
 use mathlib.Core.Path.{◌≡◌, refl, sym, ap, ◌∙◌, subst}
 use mathlib.Core.List.{List, [], ◌∷◌}
 use Prim.Native.Nat.{ℕ, zero, suc, ◌<◌, ◌≤◌}
 use native.Mathlib.Omega.{arith}
 use lib.Ieee.{Float}
 use lib.ListN.{length, get_or}
-use Rattle.costs.specs.declared.DissatProb.{DissatProb}
-use Rattle.costs.specs.declared.DissatProb.TheVariants as Prob
 use Rattle.costs.specs.Arithmetic.{1·}
 use Rattle.policies.specs.Policy.{Policy, Policies, Unsatisfiable, Trivial, Key, Lock, Hash, And, Or, Thresh, end, ◌▹◌}
 use Rattle.policies.specs.Policy.{weight, to_list, from_list, fold_and, folded}
@@ -58,18 +57,18 @@ folded-formed (x ▹ xs) h = fold_and-formed x xs h.0 h.1
 
 -- ---- the load falls
 
-flag-few : (d : DissatProb) → flag_of d ≤ 1
-flag-few (Prob.Some x) = omega arith
-flag-few Prob.None = omega arith
+flag-few : (d : Option Float) → flag_of d ≤ 1
+flag-few (Some x) = omega arith
+flag-few None = omega arith
 
 -- with the weight, whatever the probabilities of dissatisfaction
-pub load-falls : (q q' : Policy) (d d' : DissatProb) → weight q' < weight q → load q' d' < load q d
+pub load-falls : (q q' : Policy) (d d' : Option Float) → weight q' < weight q → load q' d' < load q d
 load-falls q q' d d' h =
     let few = flag-few d' in
     omega arith
 
 -- and from a policy to itself with no dissatisfaction
-pub again-falls : (q : Policy) (d : DissatProb) → flag_of d ≡ 1 → load q Prob.None < load q d
+pub again-falls : (q : Policy) (d : Option Float) → flag_of d ≡ 1 → load q None < load q d
 again-falls q d h = omega arith
 
 -- ---- what is under a number
@@ -79,7 +78,7 @@ module _ {pol : List ℕ} {r a : ℕ} (u : Under pol r a) where
   under-falls = omega (arith, u.falls)
 
   -- may be asked for, at any probabilities
-  pub under-lighter : (dissat : DissatProb) (s : Float) (d : DissatProb) → Lighter pol r dissat (ask a s d)
+  pub under-lighter : (dissat : Option Float) (s : Float) (d : Option Float) → Lighter pol r dissat (ask a s d)
   under-lighter dissat s d =
       record {
         named = u.named;
@@ -94,7 +93,7 @@ module _ {pol : List ℕ} (g : Good pol) {r : ℕ} (named : Named pol r) (formed
         named = (child-is pol g r j named l).named;
         formed = subst FormedPolicy (sym (child-is pol g r j named l).is) (child-formed (policy_at pol r) j l formed);
         falls =
-            load-falls (policy_at pol r) (policy_at pol (child_number pol r j)) Prob.None (Prob.Some 1·) (child-falls pol g r j named l);
+            load-falls (policy_at pol r) (policy_at pol (child_number pol r j)) None (Some 1·) (child-falls pol g r j named l);
       }
 
 pub under-under : {pol : List ℕ} {r a b : ℕ} → Under pol r a → Under pol a b → Under pol r b
@@ -104,7 +103,7 @@ under-under {pol} {r} {a} {b} u w =
 -- ---- what is asked for
 
 -- of two policies
-pub and-lighter-of : {pol : List ℕ} {r x y : ℕ} (sat : Float) (dissat : DissatProb) → Under pol r x → Under pol r y
+pub and-lighter-of : {pol : List ℕ} {r x y : ℕ} (sat : Float) (dissat : Option Float) → Under pol r x → Under pol r y
     → AllLighter pol r dissat (and_asks x y sat dissat)
 unfolding AllLighter
 and-lighter-of sat dissat u w = (
@@ -112,13 +111,13 @@ and-lighter-of sat dissat u w = (
   (
     under-lighter w dissat sat dissat,
     (
-      under-lighter w dissat sat Prob.None,
-      (under-lighter u dissat sat Prob.None, tt),
+      under-lighter w dissat sat None,
+      (under-lighter u dissat sat None, tt),
     ),
   ),
 )
 
-pub or-lighter-of : {pol : List ℕ} {r x y : ℕ} (sat : Float) (dissat : DissatProb) (left right : Float) → Under pol r x → Under pol r y
+pub or-lighter-of : {pol : List ℕ} {r x y : ℕ} (sat : Float) (dissat : Option Float) (left right : Float) → Under pol r x → Under pol r y
     → AllLighter pol r dissat (or_asks x y sat dissat left right)
 unfolding AllLighter
 or-lighter-of sat dissat left right u w = (
@@ -144,7 +143,7 @@ or-lighter-of sat dissat left right u w = (
   ),
 )
 
-pub and-or-lighter-of : {pol : List ℕ} {r x y other : ℕ} (sat : Float) (dissat : DissatProb) (w v : Float) → Under pol r x → Under pol r y
+pub and-or-lighter-of : {pol : List ℕ} {r x y other : ℕ} (sat : Float) (dissat : Option Float) (w v : Float) → Under pol r x → Under pol r y
     → Under pol r other → AllLighter pol r dissat (and_or_asks x y other sat dissat w v)
 unfolding AllLighter
 and-or-lighter-of sat dissat w v x y o = (
@@ -162,7 +161,7 @@ and-or-lighter-of sat dissat w v x y o = (
 )
 
 -- one of those that are asked for
-pub lighter-at : {pol : List ℕ} {r : ℕ} {dissat : DissatProb} (as' : List Ask) → AllLighter pol r dissat as' → (j : ℕ) (d : Ask)
+pub lighter-at : {pol : List ℕ} {r : ℕ} {dissat : Option Float} (as' : List Ask) → AllLighter pol r dissat as' → (j : ℕ) (d : Ask)
     → j < length as' → Lighter pol r dissat (get_or as' j d)
 unfolding AllLighter
 lighter-at [] h j d l = absurd (omega arith)
@@ -233,10 +232,10 @@ or-placed left right = (
 
 -- ---- a search of what is asked for may begin
 
-pub going_more : {pol : List ℕ} {r : ℕ} {dissat : DissatProb} {m : List ℕ} → Going 0 pol r dissat m → Going 1 pol r dissat m
+pub going_more : {pol : List ℕ} {r : ℕ} {dissat : Option Float} {m : List ℕ} → Going 0 pol r dissat m → Going 1 pol r dissat m
 going_more g = record { classed = g.classed; named = g.named; formed = g.formed; ready = g.ready; room = omega (arith, g.room) }
 
-module _ {pol : List ℕ} {r : ℕ} {dissat : DissatProb} {m : List ℕ} (g : Going 1 pol r dissat m) where
+module _ {pol : List ℕ} {r : ℕ} {dissat : Option Float} {m : List ℕ} (g : Going 1 pol r dissat m) where
   pub going-lighter : {a : Ask} → Lighter pol r dissat a → Going 0 pol a.r a.dissat m
   going-lighter {a} l =
       record {
@@ -247,22 +246,22 @@ module _ {pol : List ℕ} {r : ℕ} {dissat : DissatProb} {m : List ℕ} (g : Go
         room = room-below (policy_at pol r) (policy_at pol a.r) dissat a.dissat m l.falls g.room;
       }
 
-  pub going-under : {a : ℕ} (d : DissatProb) → Under pol r a → Going 0 pol a d m
+  pub going-under : {a : ℕ} (d : Option Float) → Under pol r a → Going 0 pol a d m
   going-under d u = going-lighter (under-lighter u dissat 1· d)
 
   -- the same policy with no dissatisfaction
-  pub going-again : flag_of dissat ≡ 1 → Going 0 pol r Prob.None m
+  pub going-again : flag_of dissat ≡ 1 → Going 0 pol r None m
   going-again e =
       record {
         classed = g.classed;
         named = g.named;
         formed = g.formed;
         ready = g.ready;
-        room = room-below (policy_at pol r) (policy_at pol r) dissat Prob.None m (again-falls (policy_at pol r) dissat e) g.room;
+        room = room-below (policy_at pol r) (policy_at pol r) dissat None m (again-falls (policy_at pol r) dissat e) g.room;
       }
 
 -- later, where no more rows than tables were added
-pub going_on : {extra : ℕ} {pol : List ℕ} {r : ℕ} {dissat : DissatProb} {m₀ m : List ℕ} → Going extra pol r dissat m₀ → Ready pol m → Paid 0 m₀ m
+pub going_on : {extra : ℕ} {pol : List ℕ} {r : ℕ} {dissat : Option Float} {m₀ m : List ℕ} → Going extra pol r dissat m₀ → Ready pol m → Paid 0 m₀ m
     → Going extra pol r dissat m
 going_on {extra} {pol} {r} {dissat} {m₀} {m} g ready paid =
     record {
@@ -332,7 +331,7 @@ module _ {pol : List ℕ} (g : Good pol) {r : ℕ} (named : Named pol r) (kind :
           named = subst (Named pol) (sym fold-number) (fold_is pol g r (k_of (policy_at pol r)) xs thresh-stored thresh-is some-children).1;
           formed = subst FormedPolicy (sym fold-policy) (folded-formed xs f.1);
           falls =
-              load-falls (policy_at pol r) (policy_at pol (fold_number pol r n)) Prob.None (Prob.Some 1·)
+              load-falls (policy_at pol r) (policy_at pol (fold_number pol r n)) None (Some 1·)
               (subst (λ (x : ℕ). weight (policy_at pol x) < weight (policy_at pol r)) (sym fold-number)
               (fold-falls pol g r (k_of (policy_at pol r)) xs thresh-stored thresh-is some-children));
         }

@@ -1,4 +1,6 @@
 -- A search, and what it makes of each kind of policy, by its steps: from what each step leaves to what the whole leaves. Assumes nothing.
+use Rattle.refusals.specs.declared.Refusal.{Refusal}
+use Rattle.std.specs.Prelude.{Option, None, Some, Result, Ok}
 use mathlib.Core.Path.{◌≡◌, sym, ap, ◌∙◌, subst}
 use mathlib.Core.List.{List, [], ◌∷◌}
 use Prim.Native.Nat.{ℕ}
@@ -6,7 +8,6 @@ use native.Mathlib.Omega.{arith}
 use lib.Ieee.{Float}
 use lib.ListN.{take}
 use Rattle.contexts.specs.declared.Context.{Context}
-use Rattle.costs.specs.declared.DissatProb.{DissatProb}
 use Rattle.costs.specs.Weights.{weights}
 use Rattle.policies.specs.Policy.{Policy, Key, And, Or}
 use Rattle.policies.specs.Forms.{kind_of, number_of, left_weight_of, right_weight_of}
@@ -28,15 +29,10 @@ use Rattle.definition_laws.proofs.Steps.{then-done, then-then, for_each-none, fo
 use Rattle.memory.specs.Layout.{node_count}
 use Rattle.nodes.specs.Views.{seen_all, offered}
 use Rattle.nodes.proofs.Leaves.{pk-h-seen, pk-k-seen}
-use Rattle.cache.specs.declared.Found.{Found}
-use Rattle.cache.specs.declared.Found.TheVariants.{At, Missing}
 use Rattle.table.specs.Rows.{TableHolds}
 use Rattle.table.specs.Inserted.{seen_table}
-use Rattle.closure.specs.declared.End.{End}
 use Rattle.closure.specs.declared.Closed.{Closed}
 use Rattle.closure.specs.Closed.{answer}
-use Rattle.search_state.specs.declared.Out.{Out}
-use Rattle.search_state.specs.declared.Out.TheVariants.{Slot}
 use Rattle.search_state.specs.State.{state_in, Ready}
 use Rattle.search_state.specs.Recalled.{table_answer, Searched, Tabled, Recalled, Remembered}
 use Rattle.search_state.proofs.Chains.{tabled-then, recalled-found, recalled-new, remembered-searched}
@@ -49,7 +45,7 @@ use Rattle.search.specs.Searching.{Going, Doing, IsOr}
 use Rattle.search.proofs.Steps.{then-pure, tabled-as, table_stays}
 
 -- the same answer by another name
-pub searched-as : {res res' : Res Table} {pol m₀ m : List ℕ} {o : Out} → res ≡ res' → Searched res pol o m₀ m → Searched res' pol o m₀ m
+pub searched-as : {res res' : Res Table} {pol m₀ m : List ℕ} {o : Result ℕ Refusal} → res ≡ res' → Searched res pol o m₀ m → Searched res' pol o m₀ m
 searched-as {pol} {m₀} {m} {o} e h = subst (λ (r : Res Table). Searched r pol o m₀ m) e h
 
 -- ---- a table with no entry
@@ -57,7 +53,7 @@ searched-as {pol} {m₀} {m} {o} e h = subst (λ (r : Res Table). Searched r pol
 module _ {c : Closed} (none : Empty c) where
   pub empty-answer : (pol m : List ℕ) → table_answer pol m c ≡ done [] (state_in pol m)
   empty-answer pol m =
-      ap (λ (e : End). answer e (seen_table pol m c.table) (state_in pol m)) none.done
+      ap (λ (e : Result (Unit {0}) Refusal). answer e (seen_table pol m c.table) (state_in pol m)) none.done
       ∙ ap (λ (n : ℕ). done (seen_all pol m (take n c.table.entries)) (state_in pol m)) none.none
 
   pub empty_holds : (m : List ℕ) → TableHolds m c.table
@@ -73,7 +69,7 @@ module _ {c : Closed} (none : Empty c) where
   empty-then pol m k = then-done k (empty-answer pol m)
 
   -- where a search begins, work on it may begin
-  pub empty-doing : {pol : List ℕ} {r : ℕ} {dissat : DissatProb} {m : List ℕ} → Going 0 pol r dissat m → Doing pol r dissat c m
+  pub empty-doing : {pol : List ℕ} {r : ℕ} {dissat : Option Float} {m : List ℕ} → Going 0 pol r dissat m → Doing pol r dissat c m
   empty-doing {pol} {r} {dissat} {m} g =
       record {
         classed = g.classed;
@@ -91,11 +87,11 @@ search-in c q p s = ap (λ (f : M Table). f s) (sym (search_is c q p))
 
 module _ (c : Context) {pol m₀ : List ℕ} {q : Policy} {p : Probs} (ready : Ready pol m₀) where
   -- what is remembered is found
-  pub search-found : {f : Found} (s : ℕ) → f ≡ At s → Recalled pol m₀ q p f → Searched (search c q p (state_in pol m₀)) pol (Slot s) m₀ m₀
+  pub search-found : {f : Option ℕ} (s : ℕ) → f ≡ Some s → Recalled pol m₀ q p f → Searched (search c q p (state_in pol m₀)) pol (Ok s) m₀ m₀
   search-found s e h = searched-as (search-in c q p (state_in pol m₀)) (recalled-found ready (body_in c q p) s e h)
 
   -- and else it is made, and remembered
-  pub search-made : {f : Found} {m₁ m₂ : List ℕ} {t : Closed} {o : Out} → f ≡ Missing → Recalled pol m₀ q p f
+  pub search-made : {f : Option ℕ} {m₁ m₂ : List ℕ} {t : Closed} {o : Result ℕ Refusal} → f ≡ None → Recalled pol m₀ q p f
       → Tabled 1 (body_in c q p (state_in pol m₀)) pol t m₀ m₁ → Remembered pol q p t o m₁ m₂ → Searched (search c q p (state_in pol m₀)) pol o m₀ m₂
   search-made e h made kept-so =
       searched-as (sym (recalled-new ready (body_in c q p) e h) ∙ search-in c q p (state_in pol m₀)) (remembered-searched made kept-so)
@@ -114,7 +110,7 @@ module _ (c : Context) (pol : List ℕ) (p : Probs) (g : Again) (t : Table) (s :
   staged-as {asks'} {pairings} a b =
       ap (λ (x : List Ask). staged c pol p g x pairings t s) a ∙ ap (λ (x : List Pairing). staged c pol p g asks' x t s) b
 
-pub all-or-asks : {asks : List Ask} (l r : ℕ) (sat : Float) (dissat : DissatProb) (lw rw : Float) → asks ≡ or_asks l r sat dissat lw rw
+pub all-or-asks : {asks : List Ask} (l r : ℕ) (sat : Float) (dissat : Option Float) (lw rw : Float) → asks ≡ or_asks l r sat dissat lw rw
     → take 8 asks ≡ or_asks l r sat dissat lw rw
 all-or-asks l r sat dissat left right e = ap (λ (x : List Ask). take 8 x) e
 
@@ -123,7 +119,7 @@ all-or-pairings left right e = ap (λ (x : List Pairing). take 10 x) e
 
 -- ---- And
 
-module _ (c : Context) {pol : List ℕ} (good : Good pol) {r : ℕ} (named : Named pol r) (sat : Float) (dissat : DissatProb) where
+module _ (c : Context) {pol : List ℕ} (good : Good pol) {r : ℕ} (named : Named pol r) (sat : Float) (dissat : Option Float) where
   -- the table of an And, from its stage
   pub body-and : {l q : ℕ} {asks : List Ask} {pairings : List Pairing} {none o : Closed} {m₀ m : List ℕ} → kind_of (policy_at pol r) ≡ 10
       → l ≡ child_number pol r 0 → q ≡ child_number pol r 1 → asks ≡ and_asks l q sat dissat → pairings ≡ and_pairings → Empty none
@@ -147,7 +143,7 @@ module _ (c : Context) {pol : List ℕ} (good : Good pol) {r : ℕ} (named : Nam
 -- ---- Or
 
 -- one side of an Or beside the other, from its stage
-module _ (c : Context) {pol : List ℕ} (good : Good pol) (g : Again) (sat : Float) (dissat : DissatProb) (w v : Float) (a other : ℕ) (t : Closed) where
+module _ (c : Context) {pol : List ℕ} (good : Good pol) (g : Again) (sat : Float) (dissat : Option Float) (w v : Float) (a other : ℕ) (t : Closed) where
   pub and-ors-and : {x y : ℕ} {asks : List Ask} {pairings : List Pairing} {o : Closed} {m₀ m : List ℕ} → Named pol a
       → kind_of (policy_at pol a) ≡ 10 → x ≡ child_number pol a 0 → y ≡ child_number pol a 1 → asks ≡ and_or_asks x y other sat dissat w v
       → pairings ≡ and_or_pairings w v
@@ -180,7 +176,7 @@ module _ (c : Context) {pol : List ℕ} (good : Good pol) (g : Again) (sat : Flo
       table_stays t (λ t. and_ors c p g (searcher c (policy_at pol a)) (searcher c (policy_at pol other)) w v t) ready holds
       (λ t s. and-or-plain c pol p g (policy_at pol a) (searcher c (policy_at pol other)) w v t s kind)
 
-module _ (c : Context) {pol : List ℕ} (good : Good pol) {r : ℕ} (named : Named pol r) (sat : Float) (dissat : DissatProb) where
+module _ (c : Context) {pol : List ℕ} (good : Good pol) {r : ℕ} (named : Named pol r) (sat : Float) (dissat : Option Float) where
   -- the table of an Or, from both sides and its stage
   pub body-or : {l q left_weight right_weight : ℕ} {w v : Float} {asks : List Ask} {pairings : List Pairing} {none left both o : Closed}
       {m₀ m₁ m₂ m : List ℕ} → IsOr (policy_at pol r) left_weight right_weight → l ≡ child_number pol r 0 → q ≡ child_number pol r 1
@@ -257,7 +253,7 @@ module _ (c : Context) (p : Probs) (g : Again) where
       for_each-next (λ x. wrapped c p g x) y [] t s
       ∙ then-pure (wrapped c p g y t s) (λ t. for_each (λ x. wrapped c p g x) [] t) (λ t s. for_each-none (λ x. wrapped c p g x) t s))
 
-module _ (c : Context) {pol : List ℕ} {r : ℕ} (sat : Float) (dissat : DissatProb) where
+module _ (c : Context) {pol : List ℕ} {r : ℕ} (sat : Float) (dissat : Option Float) where
   -- the table of a leaf that is no key
   pub body-leaf : {kind number : ℕ} {x : node.Candidate} {none o : Closed} {m₀ m : List ℕ} → LeafOf kind number r x
       → IsLeaf (policy_at pol r) kind number → FormedPolicy (policy_at pol r) → (kind ≡ 3 → ⊥) → Empty none

@@ -1,4 +1,5 @@
 -- What the answers of `search`, `body`, `leaves`, `and_body`, `or_body` and `and_ors` cite besides the other files. Assumes nothing.
+use Rattle.std.specs.Prelude.{Option}
 use mathlib.Core.Path.{◌≡◌, refl, sym, ap, ◌∙◌, subst}
 use mathlib.Core.List.{List}
 use Prim.Native.Nat.{ℕ, ◌<◌, ◌≤◌}
@@ -6,7 +7,6 @@ use native.Mathlib.Omega.{arith}
 use lib.Ieee.{Float}
 use lib.ListN.{length, take}
 use Rattle.contexts.specs.Leaves.{After, Older, Sha256, Hash256, Ripemd160, Hash160}
-use Rattle.costs.specs.declared.DissatProb.{DissatProb}
 use Rattle.policies.proofs.Forms.{is-or}
 use Rattle.policies.specs.Policy.{Policy, Unsatisfiable, Trivial, Key, Lock, Hash, And, Or, Thresh}
 use Rattle.policies.specs.Forms.{kind_of, k_of, left_weight_of, right_weight_of, children_of}
@@ -124,7 +124,7 @@ module _ {pol : List ℕ} (g : Good pol) {r : ℕ} (named : Named pol r) (formed
 
 -- ---- the asks and the pairings of stages
 
-module _ {pol : List ℕ} {r : ℕ} (sat : Float) (dissat : DissatProb) where
+module _ {pol : List ℕ} {r : ℕ} (sat : Float) (dissat : Option Float) where
   pub and-asks-lighter : (l q : ℕ) {asks : List Ask} → asks ≡ and_asks l q sat dissat → Under pol r l × Under pol r q → AllLighter pol r dissat asks
   and-asks-lighter l q e u = subst (AllLighter pol r dissat) (sym e) (and-lighter-of sat dissat u.0 u.1)
 

@@ -1,5 +1,6 @@
 -- All candidates of one pairing, each wrapped, and one pairing after another. One lemma for each way out of `pair` and `pair_all`, and what
 -- their calls ask for. Assumes nothing.
+use Rattle.std.specs.Prelude.{Float, Option, Ok}
 use mathlib.Core.Path.{◌≡◌, refl, sym, ap, ◌∙◌, subst}
 use mathlib.Core.Bool.{Bool, true, false}
 use mathlib.Core.List.{List, [], ◌∷◌, map}
@@ -11,14 +12,14 @@ use lib.Dec.{eqb}
 use lib.ListN.{length, get_or, drop, take}
 use lib.Seq.{take-length, get_or-take, length-take-le}
 use Rattle.contexts.specs.declared.Context.{Context}
-use Rattle.costs.specs.declared.DissatProb.{DissatProb}
-use Rattle.candidates.specs.declared.Made as code
+use Rattle.candidates.specs.declared.Candidate as node
+use Rattle.candidates.specs.declared.NotMade.{NotMade}
+use Rattle.std.specs.Prelude.{Result}
 use Rattle.definition.specs.Candidates.{Made, passed_over}
 use Rattle.definition.specs.Tables.{Probs, Table}
 use Rattle.definition.specs.Refusals.{M, State, Res, done, then}
 use Rattle.definition.specs.Search.{Again, wrapped_if_made}
 use Rattle.definition_laws.proofs.Steps.{then-then}
-use Rattle.closure.specs.declared.End.TheVariants.{Done}
 use Rattle.closure.specs.declared.Closed.{Closed}
 use Rattle.search_state.specs.State.{Onward, Paid, slot_table}
 use Rattle.search_state.specs.Recalled.{table_answer, Tabled}
@@ -37,18 +38,18 @@ use Rattle.search.proofs.Wrapping.{was-done, doing-next}
 -- ---- work that was handed on and is gone on with
 
 -- some steps still to come, `k`, on what is done by now give what all steps, `k₀`, gave on what was there before the first
-pub record GoingOn (pol : List ℕ) (r : ℕ) (dissat : DissatProb) (c : Closed) (m₀ : List ℕ) (k₀ k : Table → M Table) (o : Closed)
+pub record GoingOn (pol : List ℕ) (r : ℕ) (dissat : Option Float) (c : Closed) (m₀ : List ℕ) (k₀ k : Table → M Table) (o : Closed)
     (m : List ℕ) : Type 0 where
   pub says : then (table_answer pol m o) k ≡ then (table_answer pol m₀ c) k₀
   pub doing : Doing pol r dissat o m
   pub onward : Onward m₀ m
-  pub paid : o.end ≡ Done → Paid 0 m₀ m
+  pub paid : o.end ≡ (Ok tt) → Paid 0 m₀ m
 
-going-begins : {pol : List ℕ} {r : ℕ} {dissat : DissatProb} {c : Closed} {m₀ : List ℕ} → Doing pol r dissat c m₀ → (k : Table → M Table)
+going-begins : {pol : List ℕ} {r : ℕ} {dissat : Option Float} {c : Closed} {m₀ : List ℕ} → Doing pol r dissat c m₀ → (k : Table → M Table)
     → GoingOn pol r dissat c m₀ k k c m₀
 going-begins {m₀ = m₀} h k = record { says = refl; doing = h; onward = onward-refl m₀; paid = λ e. paid-refl m₀ }
 
-module _ {pol : List ℕ} {r : ℕ} {dissat : DissatProb} {c : Closed} {m₀ : List ℕ} {k₀ k : Table → M Table} {o : Closed} {m : List ℕ}
+module _ {pol : List ℕ} {r : ℕ} {dissat : Option Float} {c : Closed} {m₀ : List ℕ} {k₀ k : Table → M Table} {o : Closed} {m : List ℕ}
     (i : GoingOn pol r dissat c m₀ k₀ k o m) where
   -- one step, `f`, and then the others, `l`
   going_next : (f l : Table → M Table) → ((t : Table) (s : State) → k t s ≡ then (f t s) l) → {o' : Closed} {m' : List ℕ}
@@ -109,13 +110,13 @@ pairing-mades pol {m} {slots} {a} eight h C p g t s =
 -- ---- the candidates of a pairing
 
 -- before candidate number i, in memory m, with what is done by now
-abbrev pub PairOn : Context → Probs → Again → (pol : List ℕ) → ℕ → DissatProb → Pairing → (slots : List ℕ) → Closed → (m₀ : List ℕ) → (i : ℕ) → Closed
+abbrev pub PairOn : Context → Probs → Again → (pol : List ℕ) → ℕ → Option Float → Pairing → (slots : List ℕ) → Closed → (m₀ : List ℕ) → (i : ℕ) → Closed
     → (m : List ℕ) → Type 0
 PairOn C p g pol r dissat a slots c m₀ i o m =
     GoingOn pol r dissat c m₀ (λ t. for_mades (wrapped_if_made C p g) (mades_of pol m₀ a slots) t)
     (λ t. for_mades (wrapped_if_made C p g) (drop i (mades_of pol m₀ a slots)) t) o m
 
-module _ (C : Context) (p : Probs) (g : Again) {pol : List ℕ} {r : ℕ} {dissat : DissatProb} {a : Pairing} {slots : List ℕ} {c : Closed} {m₀ : List ℕ}
+module _ (C : Context) (p : Probs) (g : Again) {pol : List ℕ} {r : ℕ} {dissat : Option Float} {a : Pairing} {slots : List ℕ} {c : Closed} {m₀ : List ℕ}
     (h : Paired m₀ a slots) where
   pub pair-begins : Doing pol r dissat c m₀ → PairOn C p g pol r dissat a slots c m₀ 0 c m₀
   pair-begins d = going-begins d (λ t. for_mades (wrapped_if_made C p g) (mades_of pol m₀ a slots) t)
@@ -127,10 +128,10 @@ module _ (C : Context) (p : Probs) (g : Again) {pol : List ℕ} {r : ℕ} {dissa
         (paired-kept h on.onward on.doing.ready.nodes on.doing.ready.tables, omega (arith, counted.is, count_kept h on.onward))
 
     -- the next candidate may be offered
-    pub pair-offers : {x : code.Made} → MadeAt m a slots i x → OffersIfMade m x
+    pub pair-offers : {x : Result node.Candidate NotMade} → MadeAt m a slots i x → OffersIfMade m x
     pair-offers x = record { offers = x.fresh }
 
-    pub pair-goes-on : i < n → {x : code.Made} → MadeAt m a slots i x → {o' : Closed} {m' : List ℕ}
+    pub pair-goes-on : i < n → {x : Result node.Candidate NotMade} → MadeAt m a slots i x → {o' : Closed} {m' : List ℕ}
         → Tabled 0 (then (table_answer pol m o) (λ t. wrapped_if_made C p g (made_seen pol m x) t)) pol o' m m'
         → PairOn C p g pol r dissat a slots c m₀ (i + 1) o' m'
     pair-goes-on l {x} made one =
@@ -167,13 +168,13 @@ paired_at (a ∷ as') h zero d l = h.0
 paired_at (a ∷ as') h (suc i) d l = paired_at as' h.1 i d (omega arith)
 
 -- before pairing number i, in memory m, with what is done by now
-abbrev pub PairAllOn : Context → Probs → Again → (pol : List ℕ) → ℕ → DissatProb → List Pairing → (slots : List ℕ) → Closed → (m₀ : List ℕ) → (i : ℕ)
+abbrev pub PairAllOn : Context → Probs → Again → (pol : List ℕ) → ℕ → Option Float → List Pairing → (slots : List ℕ) → Closed → (m₀ : List ℕ) → (i : ℕ)
     → Closed → (m : List ℕ) → Type 0
 PairAllOn C p g pol r dissat pairings slots c m₀ i o m =
     GoingOn pol r dissat c m₀ (λ t. pair_all C p g (map (slot_table pol m₀) slots) pairings t)
     (λ t. pair_all C p g (map (slot_table pol m₀) slots) (drop i pairings) t) o m
 
-module _ (C : Context) (p : Probs) (g : Again) {pol : List ℕ} {r : ℕ} {dissat : DissatProb} (pairings : List Pairing) (k : ℕ)
+module _ (C : Context) (p : Probs) (g : Again) {pol : List ℕ} {r : ℕ} {dissat : Option Float} (pairings : List Pairing) (k : ℕ)
     (slots : List ℕ) {c : Closed}
     {m₀ : List ℕ} (h : AllPaired m₀ slots (take k pairings)) where
   pub pair-all-begins : Doing pol r dissat c m₀ → PairAllOn C p g pol r dissat (take k pairings) slots c m₀ 0 c m₀

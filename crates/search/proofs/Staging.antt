@@ -1,5 +1,7 @@
 -- The searches of a stage, one after another, and a stage: its searches, then its pairings. One lemma for each way out of `search_all` and
 -- `stage`, and what their calls ask for. Assumes nothing.
+use Rattle.refusals.specs.declared.Refusal.{Refusal}
+use Rattle.std.specs.Prelude.{Float, Option, Result, Ok, Err}
 use mathlib.Core.Path.{◌≡◌, refl, sym, ap, ◌∙◌, subst}
 use mathlib.Core.Bool.{Bool, true, false}
 use mathlib.Core.List.{List, [], ◌∷◌, ◌++◌, map}
@@ -11,7 +13,6 @@ use lib.ListN.{length, get_or, drop, take, set}
 use lib.Seq.{get_or-take, length-take-le}
 use Rattle.contexts.specs.declared.Context.{Context}
 use Rattle.policies.specs.Array.{policy_at}
-use Rattle.costs.specs.declared.DissatProb.{DissatProb}
 use Rattle.writing.specs.WellFormed.{AllBelow}
 use Rattle.definition.specs.Tables.{Probs, probs, Table}
 use Rattle.definition.specs.Refusals.{State, Res, done, refused, then, pure}
@@ -19,11 +20,9 @@ use Rattle.definition.specs.Search.{Again, search}
 use Rattle.definition_laws.proofs.Steps.{then-done, then-refused}
 use Rattle.memory.specs.Layout.{table_count}
 use Rattle.table.specs.Inserted.{seen_table}
-use Rattle.closure.specs.declared.End.{End}
-use Rattle.closure.specs.declared.End.TheVariants.{Done, Refused}
 use Rattle.closure.specs.declared.Closed.{Closed}
+use Rattle.closure.specs.Closed.{answer}
 use Rattle.closure.proofs.Offering.{closed}
-use Rattle.search_state.specs.declared.Out.{Out}
 use Rattle.search_state.specs.State.{Ready, Onward, Paid, state_in, slot_table}
 use Rattle.search_state.specs.Recalled.{table_answer, IsSlot, Searched, Tabled}
 use Rattle.search_state.proofs.Growing.{onward-refl, onward-trans, onward-table, onward-holds}
@@ -34,9 +33,9 @@ use Rattle.stages.specs.Stages.{asked, ask_all, False, table_no, paired, pair_al
 use Rattle.stages.proofs.Stages.{then_same, ask-end, ask-on-done, ask-on-refused, staged-is}
 use Rattle.pairing.proofs.Numbered.{map_at}
 use Rattle.pairing.proofs.Turns.{tables-kept, ready-paired, slots_next, tables-next}
-use Rattle.search.specs.declared.Asked.{Asked}
 use Rattle.search.specs.Searching.{Going, Doing, Lighter, AllLighter, asked_answer, AskedAll, PlacesIn, AllPlaced, AllPaired}
 use Rattle.search.proofs.Asking.{lighter-at}
+use Rattle.search.proofs.Steps.{not-both}
 use Rattle.search.proofs.Wrapping.{starts}
 use Rattle.search.proofs.Pairing.{places-within}
 
@@ -50,9 +49,6 @@ pub record Asking (C : Context) (pol : List ℕ) (asks : List Ask) (n : ℕ) (m�
   pub onward : Onward m₀ m
   pub below : AllBelow (table_count m) (take j slots)
   pub paid : Paid 0 m₀ m
-
-abbrev pub asked_slots : List ℕ → End → Asked
-asked_slots slots end = record { slots = slots; end = end }
 
 module _ (C : Context) {pol : List ℕ} (asks : List Ask) (n : ℕ) {m₀ : List ℕ} where
   pub asking-begins : Ready pol m₀ → (slots : List ℕ) → Asking C pol asks n m₀ 0 slots m₀
@@ -74,7 +70,7 @@ module _ (C : Context) {pol : List ℕ} (asks : List Ask) (n : ℕ) {m₀ : List
     sofar : List Table
     sofar = map (slot_table pol m) (take j slots)
 
-    pub asking-ends : n ≤ j → j ≤ n → AskedAll C pol asks n (asked_slots slots Done) m₀ m
+    pub asking-ends : n ≤ j → j ≤ n → AskedAll C pol asks n (Ok slots) m₀ m
     unfolding sofar
     asking-ends ge le =
         let is : j ≡ n = omega arith in
@@ -85,8 +81,12 @@ module _ (C : Context) {pol : List ℕ} (asks : List Ask) (n : ℕ) {m₀ : List
               ∙ ap (λ (j : ℕ). done (map (slot_table pol m) (take j slots)) (state_in pol m)) is;
           ready = i.ready;
           onward = i.onward;
-          below = λ e. subst (λ (j : ℕ). AllBelow (table_count m) (take j slots)) is i.below;
-          paid = λ e. i.paid;
+          below =
+              λ slots' e.
+              let same : slots ≡ slots' = cc in
+              subst (λ (s : List ℕ). AllBelow (table_count m) (take n s)) same
+              (subst (λ (j : ℕ). AllBelow (table_count m) (take j slots)) is i.below);
+          paid = λ slots' e. i.paid;
         }
 
     module _ (l : j < n) {a : Ask} (d : Ask) (is : a ≡ get_or asks j d) where
@@ -94,7 +94,7 @@ module _ (C : Context) {pol : List ℕ} (asks : List Ask) (n : ℕ) {m₀ : List
       next-is = get_or-take n asks j d l ∙ sym is
 
       -- what the next search asks for
-      pub asking-going : {r : ℕ} {dissat : DissatProb} → Going 1 pol r dissat m₀ → AllLighter pol r dissat (take n asks)
+      pub asking-going : {r : ℕ} {dissat : Option Float} → Going 1 pol r dissat m₀ → AllLighter pol r dissat (take n asks)
           → Going 0 pol a.r a.dissat m
       asking-going {r} {dissat} h lighter =
           let light : Lighter pol r dissat a =
@@ -109,12 +109,12 @@ module _ (C : Context) {pol : List ℕ} (asks : List Ask) (n : ℕ) {m₀ : List
                 (room-kept 1 (policy_at pol r) dissat m₀ m h.room i.paid);
           }
 
-      module _ {out : Out} {m' : List ℕ} (one : Searched (search C (policy_at pol a.r) (probs a.sat a.dissat)
+      module _ {out : Result ℕ Refusal} {m' : List ℕ} (one : Searched (search C (policy_at pol a.r) (probs a.sat a.dissat)
           (state_in pol m)) pol out m m') where
         first-is : asked C pol (get_or (take n asks) j d) (state_in pol m) ≡ search C (policy_at pol a.r) (probs a.sat a.dissat) (state_in pol m)
         first-is = ap (λ (a : Ask). asked C pol a (state_in pol m)) next-is
 
-        pub asking-refused : {e : ℕ} → out ≡ Out.Refused e → AskedAll C pol asks n (asked_slots slots (Refused e)) m₀ m'
+        pub asking-refused : {e : Refusal} → out ≡ Err e → AskedAll C pol asks n (Err e) m₀ m'
         unfolding sofar
         asking-refused {e} was =
             record {
@@ -124,11 +124,11 @@ module _ (C : Context) {pol : List ℕ} (asks : List Ask) (n : ℕ) {m₀ : List
                   (first-is ∙ searched-refused one e was);
               ready = one.ready;
               onward = onward-trans i.onward one.onward;
-              below = λ e. absurd (let z : ◌≡◌ {A = ℕ} 0 1 = cc in omega arith);
-              paid = λ e. absurd (let z : ◌≡◌ {A = ℕ} 0 1 = cc in omega arith);
+              below = λ s d. absurd (not-both d);
+              paid = λ s d. absurd (not-both d);
             }
 
-        pub asking-goes-on : j < length slots → {s : ℕ} → out ≡ Out.Slot s → Asking C pol asks n m₀ (j + 1) (set slots j s) m'
+        pub asking-goes-on : j < length slots → {s : ℕ} → out ≡ Ok s → Asking C pol asks n m₀ (j + 1) (set slots j s) m'
         unfolding sofar
         asking-goes-on room {s} was =
             let there : s < table_count m' = subst (IsSlot m') was one.slot in
@@ -186,13 +186,13 @@ all-paired ready slots n few most below (a ∷ as') h =
 
 -- ---- a stage
 
-module _ (C : Context) (p : Probs) (g : Again) {pol : List ℕ} {r : ℕ} {dissat : DissatProb} {c : Closed} {m₀ : List ℕ} (h : Doing pol r dissat c m₀)
-    (e : c.end ≡ Done) (asks : List Ask) (n : ℕ) (pairings : List Pairing) {a : Asked} {m₁ : List ℕ} (all : AskedAll C pol asks n a m₀ m₁) where
-  answer-is : {end : End} → a.end ≡ end → ask_all C pol (take n asks) (state_in pol m₀) ≡ asked_answer pol m₁ end (take n a.slots)
-  answer-is is = all.says ∙ ap (λ (end : End). asked_answer pol m₁ end (take n a.slots)) is
+module _ (C : Context) (p : Probs) (g : Again) {pol : List ℕ} {r : ℕ} {dissat : Option Float} {c : Closed} {m₀ : List ℕ} (h : Doing pol r dissat c m₀)
+    (e : c.end ≡ Ok tt) (asks : List Ask) (n : ℕ) (pairings : List Pairing) {a : Result (List ℕ) Refusal} {m₁ : List ℕ} (all : AskedAll C pol asks n a m₀ m₁) where
+  answer-is : {answer : Result (List ℕ) Refusal} → a ≡ answer → ask_all C pol (take n asks) (state_in pol m₀) ≡ asked_answer pol m₁ n answer
+  answer-is is = all.says ∙ ap (asked_answer pol m₁ n) is
 
-  pub stage-refused : {no : ℕ} → a.end ≡ Refused no
-      → Tabled 0 (then (table_answer pol m₀ c) (λ t. staged C pol p g (take n asks) pairings t)) pol (closed c.table (Refused no)) m₀ m₁
+  pub stage-refused : {no : Refusal} → a ≡ Err no
+      → Tabled 0 (then (table_answer pol m₀ c) (λ t. staged C pol p g (take n asks) pairings t)) pol (closed c.table (Err no)) m₀ m₁
   stage-refused {no} is =
       starts h (λ t. staged C pol p g (take n asks) pairings t) e
       (record {
@@ -202,12 +202,12 @@ module _ (C : Context) (p : Probs) (g : Again) {pol : List ℕ} {r : ℕ} {dissa
         ready = all.ready;
         onward = all.onward;
         table = onward-holds h.ready all.onward c.table h.table;
-        paid = λ e. absurd (let z : ◌≡◌ {A = ℕ} 0 1 = cc in omega arith);
+        paid = λ d. absurd (not-both d);
       })
 
-  module _ (is : a.end ≡ Done) where
+  module _ {slots : List ℕ} (is : a ≡ Ok slots) where
     -- what the pairings ask for
-    pub stage-doing : Doing pol r dissat (closed c.table Done) m₁
+    pub stage-doing : Doing pol r dissat c m₁
     stage-doing =
         record {
           classed = h.classed;
@@ -215,16 +215,16 @@ module _ (C : Context) (p : Probs) (g : Again) {pol : List ℕ} {r : ℕ} {dissa
           formed = h.formed;
           ready = all.ready;
           table = onward-holds h.ready all.onward c.table h.table;
-          room = λ d. room-kept 1 (policy_at pol r) dissat m₀ m₁ (h.room e) (all.paid is);
+          room = λ d. room-kept 1 (policy_at pol r) dissat m₀ m₁ (h.room e) (all.paid slots is);
         }
 
-    module _ (few : n ≤ length a.slots) (placed : AllPlaced n pairings) where
-      pub stage-paired : n ≤ 8 → AllPaired m₁ a.slots pairings
-      stage-paired most = all-paired all.ready a.slots n few most (all.below is) pairings placed
+    module _ (few : n ≤ length slots) (placed : AllPlaced n pairings) where
+      pub stage-paired : n ≤ 8 → AllPaired m₁ slots pairings
+      stage-paired most = all-paired all.ready slots n few most (all.below slots is) pairings placed
 
       pub stage-done : {o : Closed} {m : List ℕ}
           → Tabled 0
-          (then (table_answer pol m₁ (closed c.table Done)) (λ t. pair_all C p g (map (slot_table pol m₁) a.slots) pairings t)) pol o m₁ m
+          (then (table_answer pol m₁ c) (λ t. pair_all C p g (map (slot_table pol m₁) slots) pairings t)) pol o m₁ m
           → Tabled 0 (then (table_answer pol m₀ c) (λ t. staged C pol p g (take n asks) pairings t)) pol o m₀ m
       unfolding then
       stage-done {o} {m} done-pairs =
@@ -233,12 +233,14 @@ module _ (C : Context) (p : Probs) (g : Again) {pol : List ℕ} {r : ℕ} {dissa
             says =
                 staged-is C pol p g (take n asks) pairings (seen_table pol m₀ c.table) (state_in pol m₀)
                 ∙ then-done (λ ts. pair_all C p g ts pairings (seen_table pol m₀ c.table)) (answer-is is)
-                ∙ same-pairings (slot_table pol m₁) a.slots n few C p g pairings placed (seen_table pol m₀ c.table) (state_in pol m₁)
-                ∙ ap (λ (t : Table). pair_all C p g (map (slot_table pol m₁) a.slots) pairings t (state_in pol m₁))
+                ∙ same-pairings (slot_table pol m₁) slots n few C p g pairings placed (seen_table pol m₀ c.table) (state_in pol m₁)
+                ∙ ap (λ (t : Table). pair_all C p g (map (slot_table pol m₁) slots) pairings t (state_in pol m₁))
                 (sym (onward-table h.ready all.onward c.table h.table))
+                ∙ sym (then-done (λ t. pair_all C p g (map (slot_table pol m₁) slots) pairings t)
+                (ap (λ (e : Result (Unit {0}) Refusal). answer e (seen_table pol m₁ c.table) (state_in pol m₁)) e))
                 ∙ done-pairs.says;
             ready = done-pairs.ready;
             onward = onward-trans all.onward done-pairs.onward;
             table = done-pairs.table;
-            paid = λ d. paid-after 0 m₀ m₁ m (all.paid is) (done-pairs.paid d);
+            paid = λ d. paid-after 0 m₀ m₁ m (all.paid slots is) (done-pairs.paid d);
           })

@@ -1,23 +1,23 @@
 -- The table of a Thresh by its steps: its children's bests, the Thresh itself, the Multi of its keys, and the Ands that it folds to.
 -- Assumes nothing.
+use Rattle.refusals.specs.declared.Refusal.{Refusal}
 use mathlib.Core.Bool.{Bool, true, false, cond}
 use mathlib.Core.Path.{◌≡◌, refl, sym, ap, ◌∙◌, subst}
 use mathlib.Core.List.{List, [], map}
-use mathlib.Core.Option.{Option}
+use Rattle.std.specs.Prelude.{Option, Result, Ok, Err}
 use Prim.Native.Nat.{ℕ, suc, ◌-◌, ◌<◌, ◌≤◌}
 use native.Mathlib.Omega.{arith}
 use borrow.Author.Tests.{eq-eqb, ne_eqb}
 use lib.Ieee.{Float, inf}
 use lib.ListN.{length, take, length-map}
 use Rattle.contexts.specs.declared.Context.{Context}
-use Rattle.costs.specs.declared.DissatProb.{DissatProb}
 use Rattle.costs.specs.Arithmetic.{◌⊗◌, ◌⊘◌, float_of}
 use Rattle.policies.specs.Policy.{Policy, Policies, end, ◌▹◌, Thresh, to_list, from_list, folded}
 use Rattle.policies.specs.Forms.{number_of, children_of}
 use Rattle.policies.specs.Array.{policy_at}
 use Rattle.policies.proofs.Forms.{is-thresh, to-from}
 use Rattle.candidates.specs.declared.Candidate as node
-use Rattle.candidates.specs.declared.Made as code
+use Rattle.candidates.specs.declared.NotMade.{NotMade}
 use Rattle.writing.specs.WellFormed.{AllBelow}
 use Rattle.definition.specs.Candidates as definition
 use Rattle.definition.specs.Candidates.{Candidate, multi, thresh_of}
@@ -33,11 +33,8 @@ use Rattle.cache.specs.Slots.{slot_at}
 use Rattle.table.specs.declared.Table as code-table
 use Rattle.table.specs.Rows.{Rows, TableHolds}
 use Rattle.table.specs.Inserted.{seen_table}
-use Rattle.closure.specs.declared.End.{End}
 use Rattle.closure.specs.declared.Closed.{Closed}
 use Rattle.closure.specs.Closed.{answer}
-use Rattle.search_state.specs.declared.Out.{Out}
-use Rattle.search_state.specs.declared.Out.TheVariants.{Slot, Refused}
 use Rattle.search_state.specs.State.{stored_all, state_in, Ready, Onward, Paid}
 use Rattle.search_state.specs.Recalled.{table_answer, IsSlot, Searched, Tabled}
 use Rattle.search_state.proofs.Growing.{onward-trans, onward-holds, appended-onward, appended-stored}
@@ -130,18 +127,18 @@ module _ (c : Context) (p : Probs) {q : Policy} {k n : ℕ} (is : IsThresh q k n
       (λ t s. folded-other c p k t s (from_list (children_of q)) (λ e. ne (e ∙ child-count is)))
 
   -- k = n: the table is the one that the search of the Ands finds
-  module _ {pol m₀ m : List ℕ} (f : ℕ) {out : Out} (same : k ≡ n) (has : 1 ≤ n) (was-done : t.end ≡ End.Done)
+  module _ {pol m₀ m : List ℕ} (f : ℕ) {out : Result ℕ Refusal} (same : k ≡ n) (has : 1 ≤ n) (was-done : t.end ≡ Ok tt)
       (folds : policy_at pol f ≡ folded (from_list (children_of q))) (h : Searched (search c (policy_at pol f) p (state_in pol m₀)) pol out m₀ m) where
     fold-search : then (table_answer pol m₀ t) (λ t. folded_or c p k (child_searchers c q) t) ≡ search c (policy_at pol f) p (state_in pol m₀)
     fold-search =
         then-done (λ t. folded_or c p k (child_searchers c q) t)
-        (ap (λ (e : End). answer e (seen_table pol m₀ t.table) (state_in pol m₀)) was-done)
+        (ap (λ (e : Result (Unit {0}) Refusal). answer e (seen_table pol m₀ t.table) (state_in pol m₀)) was-done)
         ∙ folded-same c p k (seen_table pol m₀ t.table) (state_in pol m₀) (from_list (children_of q)) (same ∙ sym (child-count is))
         (omega (arith, child-count is))
         ∙ ap (λ (q : Policy). search c q p (state_in pol m₀)) (sym folds)
 
-    pub fold-found : (s : ℕ) → out ≡ Slot s → {table : code-table.Table} → Rows table (slot_at m s).entries
-        → Tabled 0 (then (table_answer pol m₀ t) (λ t. folded_or c p k (child_searchers c q) t)) pol (record { table = table; end = End.Done }) m₀ m
+    pub fold-found : (s : ℕ) → out ≡ Ok s → {table : code-table.Table} → Rows table (slot_at m s).entries
+        → Tabled 0 (then (table_answer pol m₀ t) (λ t. folded_or c p k (child_searchers c q) t)) pol (record { table = table; end = Ok tt }) m₀ m
     fold-found s e {table} rows =
         let there : s < table_count m = subst (IsSlot m) e h.slot in
         record {
@@ -155,27 +152,27 @@ module _ (c : Context) (p : Probs) {q : Policy} {k n : ℕ} (is : IsThresh q k n
           paid = λ d. h.paid s e;
         }
 
-    pub fold-refused : (x : ℕ) → out ≡ Refused x → Ready pol m₀ → (o : Closed) → o.end ≡ End.Refused x → TableHolds m₀ o.table
+    pub fold-refused : (x : Refusal) → out ≡ Err x → Ready pol m₀ → (o : Closed) → o.end ≡ Err x → TableHolds m₀ o.table
         → Tabled 0 (then (table_answer pol m₀ t) (λ t. folded_or c p k (child_searchers c q) t)) pol o m₀ m
     fold-refused x e ready o e' holds =
         record {
           says =
               fold-search
               ∙ searched-refused h x e
-              ∙ sym (ap (λ (e : End). answer e (seen_table pol m o.table) (state_in pol m)) e');
+              ∙ sym (ap (λ (e : Result (Unit {0}) Refusal). answer e (seen_table pol m o.table) (state_in pol m)) e');
           ready = h.ready;
           onward = h.onward;
           table = onward-holds ready h.onward o.table holds;
-          paid = λ d. absurd (not-both x (sym e' ∙ d));
+          paid = λ d. absurd (not-both (sym e' ∙ d));
         }
 
 -- ---- the Thresh itself
 
 -- a row may be added
-pub row-free : {pol : List ℕ} {r : ℕ} {dissat : DissatProb} {m : List ℕ} → Going 0 pol r dissat m → row_count m < max_rows
+pub row-free : {pol : List ℕ} {r : ℕ} {dissat : Option Float} {m : List ℕ} → Going 0 pol r dissat m → row_count m < max_rows
 row-free g = omega (arith, g.room, g.ready.tables.few)
 
-module _ {c : Context} {r k n : ℕ} {row m₀ m : List ℕ} {x : code.Made} (makes : MakesThresh c r k n row m₀ m x) where
+module _ {c : Context} {r k n : ℕ} {row m₀ m : List ℕ} {x : Result node.Candidate NotMade} (makes : MakesThresh c r k n row m₀ m x) where
   thresh-onward : {pol : List ℕ} → Ready pol m₀ → Ready pol m × Onward m₀ m
   thresh-onward ready = appended-onward ready makes.holds makes.grows makes.tables
 
@@ -189,7 +186,7 @@ module _ {c : Context} {r k n : ℕ} {row m₀ m : List ℕ} {x : code.Made} (ma
   thresh-paid = omega (arith, makes.rows, makes.tables.count)
 
   -- work on a table begins with the row that the Thresh may have
-  pub thresh-doing : {pol : List ℕ} {number : ℕ} {dissat : DissatProb} {none : Closed} → Going 0 pol number dissat m₀ → Empty none
+  pub thresh-doing : {pol : List ℕ} {number : ℕ} {dissat : Option Float} {none : Closed} → Going 0 pol number dissat m₀ → Empty none
       → Doing pol number dissat none m
   thresh-doing {pol} {number} {dissat} g nothing =
       let paid : Paid 1 m₀ m = thresh-paid in
@@ -214,12 +211,12 @@ after_bests c p g k us child bs s =
     then (multi_of c p g k (keys_of us) t s) λ t s.
     folded_or c p k us t s
 
-module _ (c : Context) (pol : List ℕ) (r : ℕ) (sat : Float) (dissat : DissatProb) {k n : ℕ} (is : IsThresh (policy_at pol r) k n)
-    {child_sat : Float} {child_dis : DissatProb} (as-sat : child_sat ≡ sat ⊗ (float_of k ⊘ float_of n))
+module _ (c : Context) (pol : List ℕ) (r : ℕ) (sat : Float) (dissat : Option Float) {k n : ℕ} (is : IsThresh (policy_at pol r) k n)
+    {child_sat : Float} {child_dis : Option Float} (as-sat : child_sat ≡ sat ⊗ (float_of k ⊘ float_of n))
     (as-dissat : child_dis ≡ child_dissat dissat (float_of k ⊘ float_of n) sat) where
   child-probs : probs child_sat child_dis ≡ child_probs (probs sat dissat) k n
   child-probs =
-      ap (λ (x : Float). probs x child_dis) as-sat ∙ ap (λ (d : DissatProb). probs (sat ⊗ (float_of k ⊘ float_of n)) d) as-dissat
+      ap (λ (x : Float). probs x child_dis) as-sat ∙ ap (λ (d : Option Float). probs (sat ⊗ (float_of k ⊘ float_of n)) d) as-dissat
 
   thresh-steps : (s : State) → body_in c (policy_at pol r) (probs sat dissat) s
       ≡ then (bests (probs child_sat child_dis) (child_searchers c (policy_at pol r)) s)
@@ -234,9 +231,9 @@ module _ (c : Context) (pol : List ℕ) (r : ℕ) (sat : Float) (dissat : Dissat
       ∙ thresh_body-steps c k us p g s
       ∙ ap (λ (x : Probs). then (bests x us s) (after_bests c p g k us x)) (ap (child_probs p k) count ∙ sym child-probs)
 
-  module _ {b : Bests} {m₀ m₁ : List ℕ} (h : FoundBests c (probs child_sat child_dis) pol (policy_at pol r) n b m₀ m₁) where
+  module _ {r' : Result Bests Refusal} {m₀ m₁ : List ℕ} (h : FoundBests c (probs child_sat child_dis) pol (policy_at pol r) n r' m₀ m₁) where
     -- a child was refused
-    pub body-thresh-refused : (x : ℕ) → b.end ≡ End.Refused x → (o : Closed) → o.end ≡ End.Refused x → TableHolds m₁ o.table
+    pub body-thresh-refused : (x : Refusal) → r' ≡ Err x → (o : Closed) → o.end ≡ Err x → TableHolds m₁ o.table
         → Tabled 1 (body_in c (policy_at pol r) (probs sat dissat) (state_in pol m₀)) pol o m₀ m₁
     body-thresh-refused x e o e' holds =
         let us : List Searcher = child_searchers c (policy_at pol r) in
@@ -245,15 +242,15 @@ module _ (c : Context) (pol : List ℕ) (r : ℕ) (sat : Float) (dissat : Dissat
               thresh-steps (state_in pol m₀)
               ∙ then-refused
               (after_bests c (probs sat dissat) (again_in c (policy_at pol r) (probs sat dissat)) k us (probs child_sat child_dis))
-              (h.says ∙ ap (λ (y : End). bests_answer pol m₁ y (take n b.es) (take n b.ws)) e)
-              ∙ sym (ap (λ (y : End). answer y (seen_table pol m₁ o.table) (state_in pol m₁)) e');
+              (h.says ∙ ap (bests_answer pol m₁ n) e)
+              ∙ sym (ap (λ (y : Result (Unit {0}) Refusal). answer y (seen_table pol m₁ o.table) (state_in pol m₁)) e');
           ready = h.ready;
           onward = h.onward;
           table = holds;
-          paid = λ d. absurd (not-both x (sym e' ∙ d));
+          paid = λ d. absurd (not-both (sym e' ∙ d));
         }
 
-    module _ {gaining : ℕ} {row m₂ : List ℕ} {x : code.Made} (e : b.end ≡ End.Done)
+    module _ {gaining : ℕ} {row m₂ : List ℕ} {x : Result node.Candidate NotMade} {b : Bests} (e : r' ≡ Ok b)
         (gains : Gains m₁ (probs child_sat child_dis) b.es b.ws n gaining) (arranges : Arranges b.es b.ws n gaining row)
         (makes : MakesThresh c r k n row m₁ m₂ x) where
       made-is : (bs : List Best) → bs ≡ bests_of pol m₁ (take n b.es) (take n b.ws)
@@ -288,12 +285,12 @@ module _ (c : Context) (pol : List ℕ) (r : ℕ) (sat : Float) (dissat : Dissat
           let all = tabled-then (tabled-then h₁ k₂ h₂) k₃ h₃ in
           let on = (thresh-onward makes h.ready).1 in
           let made-paid : Paid 1 m₁ m₂ = thresh-paid makes in
-          let found-paid : Paid 0 m₀ m₁ = h.paid e in
+          let found-paid : Paid 0 m₀ m₁ = h.paid b e in
           record {
             says =
                 thresh-steps (state_in pol m₀)
                 ∙ then-done (after_bests c p g k us (probs child_sat child_dis))
-                (h.says ∙ ap (λ (y : End). bests_answer pol m₁ y (take n b.es) (take n b.ws)) e)
+                (h.says ∙ ap (bests_answer pol m₁ n) e)
                 ∙ ap (λ (y : definition.Made). then (wrapped_if_made c p g y [] (state_in pol m₁)) (λ t s. then (k₂ t s) k₃)) (made-is bs refl)
                 ∙ ap rest (thresh-state makes h.ready)
                 ∙ sym (then-then (k₁ [] (state_in pol m₂)) k₂ k₃)

@@ -1,4 +1,6 @@
 -- What the answers of `thresh_body`, `multi` and `folded` cite besides the other files. Assumes nothing.
+use Rattle.refusals.specs.declared.Refusal.{Refusal}
+use Rattle.std.specs.Prelude.{Option, Ok, Err, Result}
 use mathlib.Core.Bool.{Bool, true, false}
 use mathlib.Core.Path.{◌≡◌, refl, sym, ap, ◌∙◌, subst}
 use mathlib.Core.List.{List}
@@ -7,12 +9,11 @@ use native.Mathlib.Omega.{arith}
 use lib.Ieee.{Float}
 use lib.ListN.{length, take}
 use Rattle.contexts.specs.declared.Context.{Context}
-use Rattle.costs.specs.declared.DissatProb.{DissatProb}
 use Rattle.costs.specs.Arithmetic.{◌⊗◌, ◌⊘◌, float_of}
 use Rattle.policies.specs.Array.{policy_at, Named, fold_number}
 use Rattle.writing.specs.WellFormed.{AllBelow}
 use Rattle.candidates.specs.declared.Candidate as node
-use Rattle.candidates.specs.declared.Made as code
+use Rattle.candidates.specs.declared.NotMade.{NotMade}
 use Rattle.definition.specs.Tables.{Probs, probs}
 use Rattle.definition.specs.Refusals.{then}
 use Rattle.definition.specs.Search.{search, wrapped, multi_of, keys_of, folded_or}
@@ -24,10 +25,8 @@ use Rattle.nodes.specs.Answers.{Holds}
 use Rattle.cache.specs.Slots.{slot_at}
 use Rattle.table.specs.declared.Table.{Table}
 use Rattle.table.specs.Rows.{Rows}
-use Rattle.closure.specs.declared.End.TheVariants.{Done, Refused}
 use Rattle.closure.specs.declared.Closed.{Closed}
 use Rattle.closure.proofs.Offering.{closed}
-use Rattle.search_state.specs.declared.Out.{Out}
 use Rattle.search_state.specs.State.{state_in, Classed, load}
 use Rattle.search_state.specs.Recalled.{table_answer, Searched, Tabled}
 use Rattle.choice.specs.Arranged.{Gains, Arranges}
@@ -60,17 +59,17 @@ small classed named formed is =
       few = bounds.2;
     }
 
-pub going-small : {extra : ℕ} {pol : List ℕ} {r k n : ℕ} {d : DissatProb} {m : List ℕ} → Going extra pol r d m → IsThresh (policy_at pol r) k n
+pub going-small : {extra : ℕ} {pol : List ℕ} {r k n : ℕ} {d : Option Float} {m : List ℕ} → Going extra pol r d m → IsThresh (policy_at pol r) k n
     → Small r k n
 going-small g is = small g.classed g.named g.formed is
 
-pub doing-small : {pol : List ℕ} {r k n : ℕ} {d : DissatProb} {c : Closed} {m : List ℕ} → Doing pol r d c m → IsThresh (policy_at pol r) k n
+pub doing-small : {pol : List ℕ} {r k n : ℕ} {d : Option Float} {c : Closed} {m : List ℕ} → Doing pol r d c m → IsThresh (policy_at pol r) k n
     → Small r k n
 doing-small g is = small g.classed g.named g.formed is
 
 -- ---- the Multi
 
-module _ (C : Context) (sat : Float) {pol : List ℕ} {r k n : ℕ} {dissat : DissatProb} {c : Closed} {m₀ : List ℕ} (d : Doing pol r dissat c m₀)
+module _ (C : Context) (sat : Float) {pol : List ℕ} {r k n : ℕ} {dissat : Option Float} {c : Closed} {m₀ : List ℕ} (d : Doing pol r dissat c m₀)
     (is : IsThresh (policy_at pol r) k n) {b : Bool} (keys : AllKeys (policy_at pol r) b) where
   pub multi-yes : b ≡ true → {x : node.Candidate} {o : Closed} {m : List ℕ} → MultiOf C r k n x
       → Tabled 0
@@ -92,7 +91,7 @@ module _ (C : Context) (sat : Float) {pol : List ℕ} {r k n : ℕ} {dissat : Di
 
 -- ---- the fold
 
-module _ {pol : List ℕ} {r k n : ℕ} {dissat : DissatProb} {c : Closed} {m₀ : List ℕ} (d : Doing pol r dissat c m₀)
+module _ {pol : List ℕ} {r k n : ℕ} {dissat : Option Float} {c : Closed} {m₀ : List ℕ} (d : Doing pol r dissat c m₀)
     (is : IsThresh (policy_at pol r) k n) {f : ℕ} (is_f : f ≡ fold_number pol r n) where
   has_some : 1 ≤ n
   has_some = omega (arith, (doing-small d is).one, (doing-small d is).most)
@@ -106,53 +105,53 @@ module _ {pol : List ℕ} {r k n : ℕ} {dissat : DissatProb} {c : Closed} {m₀
       let falls : load (policy_at pol f) dissat < load (policy_at pol r) dissat = (under-lighter fold-under dissat (float_of 1) dissat).falls in
       omega arith
 
-  pub fold-going : c.end ≡ Done → Going 0 pol f dissat m₀
+  pub fold-going : c.end ≡ (Ok tt) → Going 0 pol f dissat m₀
   fold-going e = going-under (doing-going d e) dissat fold-under
 
-  module _ (C : Context) (sat : Float) (same : k ≡ n) (e : c.end ≡ Done) {out : Out} {m : List ℕ}
+  module _ (C : Context) (sat : Float) (same : k ≡ n) (e : c.end ≡ Ok tt) {out : Result ℕ Refusal} {m : List ℕ}
       (h : Searched (search C (policy_at pol f) (probs sat dissat) (state_in pol m₀)) pol out m₀ m) where
-    pub folded-no : {x : ℕ} → out ≡ Out.Refused x
+    pub folded-no : {x : Refusal} → out ≡ Err x
         → Tabled 0 (then (table_answer pol m₀ c) (λ t. folded_or C (probs sat dissat) k (child_searchers C (policy_at pol r)) t)) pol
-        (closed c.table (Refused x)) m₀ m
+        (closed c.table (Err x)) m₀ m
     folded-no {x} is-no =
         fold-refused C (probs sat dissat) is c f same has_some e
         (ap (policy_at pol) is_f ∙ fold-policy d.classed.good d.named is.is_thresh is.is_n has_some) h x is-no d.ready
-        (closed c.table (Refused x)) refl d.table
+        (closed c.table (Err x)) refl d.table
 
-    pub folded-yes : {s : ℕ} → out ≡ Out.Slot s → {table : Table} → Rows table (slot_at m s).entries
+    pub folded-yes : {s : ℕ} → out ≡ Ok s → {table : Table} → Rows table (slot_at m s).entries
         → Tabled 0 (then (table_answer pol m₀ c) (λ t. folded_or C (probs sat dissat) k (child_searchers C (policy_at pol r)) t)) pol
-        (closed table Done) m₀ m
+        (closed table (Ok tt)) m₀ m
     folded-yes {s} is-slot rows =
         fold-found C (probs sat dissat) is c f same has_some e
         (ap (policy_at pol) is_f ∙ fold-policy d.classed.good d.named is.is_thresh is.is_n has_some) h s is-slot rows
 
 -- ---- the Thresh
 
-module _ {C : Context} {p : Probs} {pol : List ℕ} {r k n : ℕ} {dissat : DissatProb} {b : Bests} {m₀ m₁ : List ℕ} (g : Going 0 pol r dissat m₀)
-    (is : IsThresh (policy_at pol r) k n) (found : FoundBests C p pol (policy_at pol r) n b m₀ m₁) (e : b.end ≡ Done) where
+module _ {C : Context} {p : Probs} {pol : List ℕ} {r k n : ℕ} {dissat : Option Float} {r' : Result Bests Refusal} {m₀ m₁ : List ℕ} (g : Going 0 pol r dissat m₀)
+    (is : IsThresh (policy_at pol r) k n) (found : FoundBests C p pol (policy_at pol r) n r' m₀ m₁) {b : Bests} (e : r' ≡ Ok b) where
   found-going : Going 0 pol r dissat m₁
-  found-going = going_on g found.ready (found.paid e)
+  found-going = going_on g found.ready (found.paid b e)
 
   pub gaining-asks : (length m₁ ≡ work_words) × ((n ≤ 16) × (AllBelow (node_count m₁) (take n b.es) × AllBelow (node_count m₁) (take n b.ws)))
-  gaining-asks = (found.ready.nodes.long, ((going-small g is).few, (found.es e, found.ws e)))
+  gaining-asks = (found.ready.nodes.long, ((going-small g is).few, (found.es b e, found.ws b e)))
 
   pub made_asks : {gaining : ℕ} {row : List ℕ} → Arranges b.es b.ws n gaining row
       → Holds m₁ × ((row_count m₁ < max_rows) × ((1 ≤ k) × ((k ≤ n) × ((n ≤ 16) × AllBelow (node_count m₁) (take n row)))))
   made_asks arranges =
       let s : Small r k n = going-small g is in
-      (found.ready.nodes, (row-free found-going, (s.one, (s.most, (s.few, arranges.below (node_count m₁) (found.es e) (found.ws e))))))
+      (found.ready.nodes, (row-free found-going, (s.one, (s.most, (s.few, arranges.below (node_count m₁) (found.es b e) (found.ws b e))))))
 
-  pub made-doing : {number : ℕ} {row m₂ : List ℕ} {x : code.Made} {none : Closed} → MakesThresh C number k n row m₁ m₂ x → Empty none
+  pub made-doing : {number : ℕ} {row m₂ : List ℕ} {x : Result node.Candidate NotMade} {none : Closed} → MakesThresh C number k n row m₁ m₂ x → Empty none
       → Doing pol r dissat none m₂
   made-doing makes nothing = thresh-doing makes found-going nothing
 
 pub gaining-less : {r k n gaining : ℕ} {m es ws : List ℕ} {p : Probs} → Small r k n → Gains m p es ws n gaining → gaining < n
 gaining-less s gains = gains.there (omega (arith, s.one, s.most))
 
-pub thresh-no : (C : Context) (pol : List ℕ) (r : ℕ) (sat : Float) (dissat : DissatProb) {k n : ℕ} → IsThresh (policy_at pol r) k n
-    → {child_dis : DissatProb} → child_dis ≡ child_dissat dissat (float_of k ⊘ float_of n) sat → {b : Bests} {m₀ m₁ : List ℕ}
-    → FoundBests C (probs (sat ⊗ (float_of k ⊘ float_of n)) child_dis) pol (policy_at pol r) n b m₀ m₁ → {x : ℕ} → b.end ≡ Refused x
+pub thresh-no : (C : Context) (pol : List ℕ) (r : ℕ) (sat : Float) (dissat : Option Float) {k n : ℕ} → IsThresh (policy_at pol r) k n
+    → {child_dis : Option Float} → child_dis ≡ child_dissat dissat (float_of k ⊘ float_of n) sat → {r' : Result Bests Refusal} {m₀ m₁ : List ℕ}
+    → FoundBests C (probs (sat ⊗ (float_of k ⊘ float_of n)) child_dis) pol (policy_at pol r) n r' m₀ m₁ → {x : Refusal} → r' ≡ Err x
     → {none : Closed} → Empty none
-    → Tabled 1 (body_in C (policy_at pol r) (probs sat dissat) (state_in pol m₀)) pol (closed none.table (Refused x)) m₀ m₁
-thresh-no C pol r sat dissat is as-dissat {b} {m₀} {m₁} found {x} e {none} nothing =
-    body-thresh-refused C pol r sat dissat is refl as-dissat found x e (closed none.table (Refused x)) refl (empty_holds nothing m₁)
+    → Tabled 1 (body_in C (policy_at pol r) (probs sat dissat) (state_in pol m₀)) pol (closed none.table (Err x)) m₀ m₁
+thresh-no C pol r sat dissat is as-dissat {m₀ = m₀} {m₁ = m₁} found {x} e {none} nothing =
+    body-thresh-refused C pol r sat dissat is refl as-dissat found x e (closed none.table (Err x)) refl (empty_holds nothing m₁)

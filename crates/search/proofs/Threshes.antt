@@ -1,7 +1,10 @@
 -- The children of a Thresh, chosen one after another, and the steps of its table. Assumes nothing.
+use Rattle.refusals.specs.declared.Refusal.{Refusal}
+use Rattle.refusals.specs.Numbers.{number_of}
+use Rattle.std.specs.Option.{ok_or}
 use mathlib.Core.Path.{◌≡◌, refl, sym, ap, ◌∙◌, subst}
 use mathlib.Core.List.{List, [], ◌∷◌, ◌++◌}
-use mathlib.Core.Option.{Option}
+use Rattle.std.specs.Prelude.{Option, Result, Ok, Err, None, Some}
 use Prim.Native.Nat.{ℕ, zero, suc, ◌+◌, ◌<◌, ◌≤◌}
 use native.Mathlib.Omega.{arith}
 use lib.ListN.{length, take, drop, set}
@@ -19,43 +22,38 @@ use Rattle.memory.specs.Layout.{node_count, table_count}
 use Rattle.nodes.specs.Views.{seen}
 use Rattle.nodes.proofs.Grown.{seen-kept}
 use Rattle.cache.specs.Slots.{slot_at, Kept}
-use Rattle.closure.specs.declared.End.{End}
-use Rattle.search_state.specs.declared.Out.{Out}
-use Rattle.search_state.specs.declared.Out.TheVariants.{Slot, Refused}
 use Rattle.search_state.specs.State.{state_in, Ready, Onward, Paid}
 use Rattle.search_state.specs.Recalled.{IsSlot, Searched}
 use Rattle.search_state.proofs.Growing.{onward-refl, onward-trans, below_more}
 use Rattle.search_state.proofs.Chains.{paid-refl, paid-after, searched-done, searched-refused}
 use Rattle.choice.specs.Arranged.{bests_of}
 use Rattle.choice.specs.Chosen.{suits_want, chosen_seen, Chooses}
-use Rattle.choice.specs.declared.Chosen.{Chosen}
 use Rattle.choice.specs.declared.Want.{Want}
-use Rattle.search.specs.declared.Best.TheVariants as Best'
 use Rattle.search.specs.declared.Bests.{Bests}
-use Rattle.search.specs.Searching.{child_searchers, FoundBest, bests_answer, FoundBests}
+use Rattle.search.specs.Searching.{child_searchers, FoundBest, FoundBests}
 use Rattle.stages.proofs.Stages.{then_same}
 use Rattle.search.proofs.Steps.{not-both, then-pure}
 
 -- ---- the best of one table
 
 -- a table that was found may be chosen from
-pub searched-slot : {res : Res Table} {pol m₀ m : List ℕ} {o : Out} → Searched res pol o m₀ m → (s : ℕ) → o ≡ Slot s
+pub searched-slot : {res : Res Table} {pol m₀ m : List ℕ} {o : Result ℕ Refusal} → Searched res pol o m₀ m → (s : ℕ) → o ≡ Ok s
     → Kept m × ((s < table_count m) × AllBelow (node_count m) (slot_at m s).entries)
 searched-slot {res} {pol} {m₀} {m} h s e =
     let there : s < table_count m = subst (IsSlot m) e h.slot in
     (h.ready.tables, (there, (h.ready.slots s there).below))
 
-module _ (c : Context) (q : Policy) (p : Probs) {pol m₀ m : List ℕ} {o : Out} (want : Want) (h : Searched (search c q p (state_in pol m₀)) pol o m₀ m)
+module _ (c : Context) (q : Policy) (p : Probs) {pol m₀ m : List ℕ} {o : Result ℕ Refusal} (want : Want) (h : Searched (search c q p (state_in pol m₀)) pol o m₀ m)
   where
-    module _ (s : ℕ) (e : o ≡ Slot s) {r : Chosen} (chooses : Chooses m s p want r) where
-      chosen_of : {r' : Chosen} → r ≡ r'
+    module _ (s : ℕ) (e : o ≡ Ok s) {r : Option ℕ} (chooses : Chooses m s p want r) where
+      chosen_of : {r' : Option ℕ} → r ≡ r'
           → then (search c q p (state_in pol m₀)) (λ t. chosen (cheapest p (suits_want want) t)) ≡ chosen (chosen_seen pol m r') (state_in pol m)
       chosen_of is =
           then-done (λ t. chosen (cheapest p (suits_want want) t)) (searched-done h s e)
           ∙ ap (λ (x : Option Candidate). chosen x (state_in pol m)) (chooses.says pol ∙ ap (chosen_seen pol m) is)
 
       -- an entry suits
-      pub best-found : (n : ℕ) → r ≡ Chosen.At n → FoundBest c p pol q want (Best'.At n) m₀ m
+      best-found : (n : ℕ) → r ≡ Some n → FoundBest c p pol q want (Ok n) m₀ m
       best-found n is =
           record {
             says = chosen_of is;
@@ -66,7 +64,7 @@ module _ (c : Context) (q : Policy) (p : Probs) {pol m₀ m : List ℕ} {o : Out
           }
 
       -- none suits
-      pub best-missing : r ≡ Chosen.Missing → FoundBest c p pol q want (Best'.Refused 11) m₀ m
+      best-missing : r ≡ None → FoundBest c p pol q want (Err Refusal.LimitsExceeded) m₀ m
       best-missing is =
           record {
             says = chosen_of is;
@@ -76,15 +74,23 @@ module _ (c : Context) (q : Policy) (p : Probs) {pol m₀ m : List ℕ} {o : Out
             paid = λ n is. h.paid s e;
           }
 
+      -- one or the other
+      pub best-chosen : FoundBest c p pol q want (ok_or r Refusal.LimitsExceeded) m₀ m
+      best-chosen = by_chosen r refl
+        where
+          by_chosen : (r' : Option ℕ) → r ≡ r' → FoundBest c p pol q want (ok_or r' Refusal.LimitsExceeded) m₀ m
+          by_chosen (Some n) is = best-found n is
+          by_chosen None is = best-missing is
+
     -- no table was found
-    pub best-refused : (n : ℕ) → o ≡ Refused n → FoundBest c p pol q want (Best'.Refused n) m₀ m
+    pub best-refused : (n : Refusal) → o ≡ Err n → FoundBest c p pol q want (Err n) m₀ m
     best-refused n e =
         record {
           says = then-refused (λ t. chosen (cheapest p (suits_want want) t)) (searched-refused h n e);
           ready = h.ready;
           onward = h.onward;
           below = tt;
-          paid = λ x is. absurd (let z : ◌≡◌ {A = ℕ} 0 1 = cc in omega arith);
+          paid = λ x is. absurd (not-both is);
         }
 
 -- ---- the best of a child, as E and as W
@@ -107,17 +113,17 @@ best-steps c q p s =
     then-then (search c q p s) (λ t. chosen (cheapest p (suits_want Want.W) t)) (λ w s. done (both e w) s))))
 
 module _ (c : Context) (q : Policy) (p : Probs) {pol m₀ m₁ : List ℕ} where
-  best-no-e : {n : ℕ} → FoundBest c p pol q Want.E (Best'.Refused n) m₀ m₁ → best_of p (searcher c q) (state_in pol m₀) ≡ refused n
+  best-no-e : {n : Refusal} → FoundBest c p pol q Want.E (Err n) m₀ m₁ → best_of p (searcher c q) (state_in pol m₀) ≡ refused (number_of n)
   best-no-e h = best-steps c q p (state_in pol m₀) ∙ then-refused (λ e s. then (best_as c q p Want.W s) (λ w s. done (both e w) s)) h.says
 
-  module _ {e : ℕ} (h : FoundBest c p pol q Want.E (Best'.At e) m₀ m₁) where
+  module _ {e : ℕ} (h : FoundBest c p pol q Want.E (Ok e) m₀ m₁) where
     best-e : best_of p (searcher c q) (state_in pol m₀) ≡ then (best_as c q p Want.W (state_in pol m₁)) (λ w s. done (both (seen pol m₁ e) w) s)
     best-e = best-steps c q p (state_in pol m₀) ∙ then-done (λ e s. then (best_as c q p Want.W s) (λ w s. done (both e w) s)) h.says
 
-    best-no-w : {n : ℕ} {m₂ : List ℕ} → FoundBest c p pol q Want.W (Best'.Refused n) m₁ m₂ → best_of p (searcher c q) (state_in pol m₀) ≡ refused n
+    best-no-w : {n : Refusal} {m₂ : List ℕ} → FoundBest c p pol q Want.W (Err n) m₁ m₂ → best_of p (searcher c q) (state_in pol m₀) ≡ refused (number_of n)
     best-no-w k = best-e ∙ then-refused (λ w s. done (both (seen pol m₁ e) w) s) k.says
 
-    best-both : {w : ℕ} {m₂ : List ℕ} → FoundBest c p pol q Want.W (Best'.At w) m₁ m₂
+    best-both : {w : ℕ} {m₂ : List ℕ} → FoundBest c p pol q Want.W (Ok w) m₁ m₂
         → best_of p (searcher c q) (state_in pol m₀) ≡ done (both (seen pol m₂ e) (seen pol m₂ w)) (state_in pol m₂)
     best-both {w} {m₂} k =
         best-e
@@ -237,39 +243,33 @@ module _ (c : Context) (p : Probs) (q : Policy) {pol : List ℕ} {j : ℕ} {es w
       (λ (r : Res Best). then r (λ b s. then (bests p (drop (suc j) (child_searchers c q)) s) (λ bs s. done ((known ++ (b ∷ [])) ++ bs) s)))
       (ap (λ (x : Policy). best_of p (searcher c x) (state_in pol m)) (sym is) ∙ h)
 
-  refused-bests : {m₁ : List ℕ} (n : ℕ) → best_of p (searcher c q') (state_in pol m) ≡ refused n → Ready pol m₁ → Onward m m₁
-      → (k : ℕ) (r : Bests) → r.end ≡ End.Refused n → FoundBests c p pol q k r m₀ m₁
-  refused-bests {m₁} n h ready on k r e =
-      let answered : bests_answer pol m₁ r.end (take k r.es) (take k r.ws) ≡ refused n =
-      ap (λ (x : End). bests_answer pol m₁ x (take k r.es) (take k r.ws)) e in
-      let not_done : r.end ≡ End.Done → ⊥ = λ d. not-both n (sym e ∙ d) in
+  refused-bests : {m₁ : List ℕ} (n : Refusal) → best_of p (searcher c q') (state_in pol m) ≡ refused (number_of n) → Ready pol m₁ → Onward m m₁
+      → (k : ℕ) → FoundBests c p pol q k (Err n) m₀ m₁
+  refused-bests {m₁} n h ready on k =
       record {
         says =
             now_on h
             ∙ then-refused
             (λ b s. then (bests p (drop (suc j) (child_searchers c q)) s) (λ bs s. done ((bests_of pol m (take j es) (take j ws) ++ (b ∷ [])) ++ bs) s))
-            refl
-            ∙ sym answered;
+            refl;
         ready = ready;
         onward = onward-trans sofar.onward on;
-        es = λ d. absurd (not_done d);
-        ws = λ d. absurd (not_done d);
-        paid = λ d. absurd (not_done d);
+        es = λ b d. absurd (not-both d);
+        ws = λ b d. absurd (not-both d);
+        paid = λ b d. absurd (not-both d);
       }
 
   -- refused as E
-  pub bests-no-e : {m₁ : List ℕ} (n : ℕ) → FoundBest c p pol q' Want.E (Best'.Refused n) m m₁ → (k : ℕ) (r : Bests) → r.end ≡ End.Refused n
-      → FoundBests c p pol q k r m₀ m₁
-  bests-no-e n h k r e = refused-bests n (best-no-e c q' p h) h.ready h.onward k r e
+  pub bests-no-e : {m₁ : List ℕ} (n : Refusal) → FoundBest c p pol q' Want.E (Err n) m m₁ → (k : ℕ) → FoundBests c p pol q k (Err n) m₀ m₁
+  bests-no-e n h k = refused-bests n (best-no-e c q' p h) h.ready h.onward k
 
-  module _ {m₁ m₂ : List ℕ} {e : ℕ} (h : FoundBest c p pol q' Want.E (Best'.At e) m m₁) where
+  module _ {m₁ m₂ : List ℕ} {e : ℕ} (h : FoundBest c p pol q' Want.E (Ok e) m m₁) where
     -- refused as W
-    pub bests-no-w : (n : ℕ) → FoundBest c p pol q' Want.W (Best'.Refused n) m₁ m₂ → (k : ℕ) (r : Bests) → r.end ≡ End.Refused n
-        → FoundBests c p pol q k r m₀ m₂
-    bests-no-w n w k r i = refused-bests n (best-no-w c q' p h w) w.ready (onward-trans h.onward w.onward) k r i
+    pub bests-no-w : (n : Refusal) → FoundBest c p pol q' Want.W (Err n) m₁ m₂ → (k : ℕ) → FoundBests c p pol q k (Err n) m₀ m₂
+    bests-no-w n w k = refused-bests n (best-no-w c q' p h w) w.ready (onward-trans h.onward w.onward) k
 
     -- both
-    pub bests-step : {w : ℕ} → FoundBest c p pol q' Want.W (Best'.At w) m₁ m₂ → j < length es → j < length ws
+    pub bests-step : {w : ℕ} → FoundBest c p pol q' Want.W (Ok w) m₁ m₂ → j < length es → j < length ws
         → BestsSoFar c p pol q (j + 1) (set es j e) (set ws j w) m₀ m₂
     bests-step {w} k le lw =
         let on : Onward m m₂ = onward-trans h.onward k.onward in
@@ -308,9 +308,12 @@ module _ (c : Context) (p : Probs) (q : Policy) {pol : List ℕ} {j : ℕ} {es w
           paid = paid-after 0 m₀ m m₂ sofar.paid (paid-after 0 m m₁ m₂ (h.paid e refl) (k.paid w refl));
         }
 
+ok-same : {b b' : Bests} → ◌≡◌ {A = Result Bests Refusal} (Ok b) (Ok b') → b ≡ b'
+ok-same e = cc
+
 -- all children
 pub bests-end : (c : Context) (p : Probs) (q : Policy) {pol : List ℕ} {j : ℕ} {es ws m₀ m : List ℕ} → BestsSoFar c p pol q j es ws m₀ m
-    → j ≡ length (children_of q) → FoundBests c p pol q j (record { es = es; ws = ws; end = End.Done }) m₀ m
+    → j ≡ length (children_of q) → FoundBests c p pol q j (Ok (record { es = es; ws = ws })) m₀ m
 bests-end c p q {pol} {j} {es} {ws} {m₀} {m} sofar is =
     let known : List Best = bests_of pol m (take j es) (take j ws) in
     record {
@@ -321,7 +324,13 @@ bests-end c p q {pol} {j} {es} {ws} {m₀} {m} sofar is =
           ∙ bests-done p known (state_in pol m);
       ready = sofar.ready;
       onward = sofar.onward;
-      es = λ d. sofar.below_e;
-      ws = λ d. sofar.below_w;
-      paid = λ d. sofar.paid;
+      es =
+          λ b d.
+          let same : es ≡ b.es = ap (λ (b : Bests). b.es) (ok-same d) in
+          subst (λ (xs : List ℕ). AllBelow (node_count m) (take j xs)) same sofar.below_e;
+      ws =
+          λ b d.
+          let same : ws ≡ b.ws = ap (λ (b : Bests). b.ws) (ok-same d) in
+          subst (λ (xs : List ℕ). AllBelow (node_count m) (take j xs)) same sofar.below_w;
+      paid = λ b d. sofar.paid;
     }

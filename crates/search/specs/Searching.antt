@@ -1,16 +1,15 @@
 -- What the functions of the search leave, by the definition (definition, specs/Search.antt) on what work memory stands for. Assumes nothing.
-use Rattle.std.specs.Prelude.{Bool, true, List, [], ◌∷◌, map, ◌≡◌, ℕ, ◌<◌, Float, length, take}
+use Rattle.refusals.specs.Numbers.{number_of}
+use Rattle.refusals.specs.declared.Refusal.{Refusal}
+use Rattle.std.specs.Prelude.{Bool, true, List, [], ◌∷◌, map, ◌≡◌, ℕ, ◌<◌, Float, length, take, Option, None, Some, Ok, Result, Err}
 use Rattle.contexts.specs.declared.Context.{Context}
-use Rattle.costs.specs.declared.DissatProb.{DissatProb}
-use Rattle.costs.specs.declared.DissatProb.TheVariants as Prob
 use Rattle.costs.specs.Arithmetic.{◌⊕◌, ◌⊖◌, ◌⊗◌, 1·}
 use Rattle.policies.specs.Policy.{Policy, from_list}
 use Rattle.policies.specs.Forms.{kind_of, k_of, left_weight_of, right_weight_of, children_of}
 use Rattle.policies.specs.Array.{policy_at, Named}
 use Rattle.writing.specs.WellFormed.{AllBelow}
 use Rattle.candidates.specs.declared.Candidate as node
-use Rattle.candidates.specs.declared.Made as code
-use Rattle.candidates.specs.declared.Made.TheVariants as Made
+use Rattle.candidates.specs.declared.NotMade.{NotMade}
 use Rattle.definition.specs.Candidates.{Candidate, Cast}
 use Rattle.definition.specs.Tables.{Probs, probs, Table}
 use Rattle.definition.specs.Refusals.{M, Res, done, refused, then, ◌>>=◌}
@@ -22,8 +21,6 @@ use Rattle.nodes.specs.Views.{seen}
 use Rattle.nodes.specs.Offers.{Offerable}
 use Rattle.table.specs.Rows.{TableHolds}
 use Rattle.table.specs.Inserted.{seen_table}
-use Rattle.closure.specs.declared.End.{End}
-use Rattle.closure.specs.declared.End.TheVariants.{Done, Refused}
 use Rattle.closure.specs.declared.Closed.{Closed}
 use Rattle.search_state.specs.State.{Classed, Ready, Onward, Room, Paid, flag_of, load, state_in, slot_table}
 use Rattle.stages.specs.declared.Ask.{Ask}
@@ -33,9 +30,6 @@ use Rattle.pairing.specs.Mades.{Paired}
 use Rattle.choice.specs.Arranged.{bests_of}
 use Rattle.choice.specs.Chosen.{suits_want}
 use Rattle.choice.specs.declared.Want.{Want}
-use Rattle.search.specs.declared.Best as best
-use Rattle.search.specs.declared.Best.TheVariants as Best'
-use Rattle.search.specs.declared.Asked.{Asked}
 use Rattle.search.specs.declared.Bests.{Bests}
 
 -- ---- what a policy is
@@ -55,27 +49,27 @@ child_searchers c q = searchers c (from_list (children_of q))
 
 -- ---- what holds where a search of number r begins, and where it works on a table
 
-pub record Going (extra : ℕ) (pol : List ℕ) (r : ℕ) (dissat : DissatProb) (m : List ℕ) : Type 0 where
+pub record Going (extra : ℕ) (pol : List ℕ) (r : ℕ) (dissat : Option Float) (m : List ℕ) : Type 0 where
   pub classed : Classed pol
   pub named : Named pol r
   pub formed : FormedPolicy (policy_at pol r)
   pub ready : Ready pol m
   pub room : Room extra (policy_at pol r) dissat m
 
-pub record Doing (pol : List ℕ) (r : ℕ) (dissat : DissatProb) (c : Closed) (m : List ℕ) : Type 0 where
+pub record Doing (pol : List ℕ) (r : ℕ) (dissat : Option Float) (c : Closed) (m : List ℕ) : Type 0 where
   pub classed : Classed pol
   pub named : Named pol r
   pub formed : FormedPolicy (policy_at pol r)
   pub ready : Ready pol m
   pub table : TableHolds m c.table
-  pub room : c.end ≡ Done → Room 1 (policy_at pol r) dissat m
+  pub room : c.end ≡ (Ok tt) → Room 1 (policy_at pol r) dissat m
 
 -- ---- casts
 
 -- where it is told that the table is settled, it is: the casts of what the search without dissatisfaction found change it no more
-pub record SettledIf (told : Bool) (c : Context) (pol : List ℕ) (r : ℕ) (sat : Float) (dissat : DissatProb) (t : Closed) (m : List ℕ) : Type 0 where
+pub record SettledIf (told : Bool) (c : Context) (pol : List ℕ) (r : ℕ) (sat : Float) (dissat : Option Float) (t : Closed) (m : List ℕ) : Type 0 where
   pub asked : told ≡ true → flag_of dissat ≡ 1
-  pub settled : told ≡ true → t.end ≡ Done → Settled c (policy_at pol r) (probs sat dissat) (state_in pol m) (seen_table pol m t.table)
+  pub settled : told ≡ true → t.end ≡ (Ok tt) → Settled c (policy_at pol r) (probs sat dissat) (state_in pol m) (seen_table pol m t.table)
 
 -- one cast of what a search gives
 abbrev pub cast_once : Context → Probs → M Table → Cast → Table → M Table
@@ -84,12 +78,12 @@ cast_once c p again f t = again >>= λ xs. for_each (λ x. inserted_if_typed c p
 -- ---- searches in a row
 
 -- what is asked for weighs less than number r at its probability of dissatisfaction
-pub record Lighter (pol : List ℕ) (r : ℕ) (dissat : DissatProb) (a : Ask) : Type 0 where
+pub record Lighter (pol : List ℕ) (r : ℕ) (dissat : Option Float) (a : Ask) : Type 0 where
   pub named : Named pol a.r
   pub formed : FormedPolicy (policy_at pol a.r)
   pub falls : load (policy_at pol a.r) a.dissat < load (policy_at pol r) dissat
 
-unfoldable pub AllLighter : (pol : List ℕ) (r : ℕ) (dissat : DissatProb) → List Ask → Type 0
+unfoldable pub AllLighter : (pol : List ℕ) (r : ℕ) (dissat : Option Float) → List Ask → Type 0
 AllLighter pol r dissat [] = Unit {0}
 AllLighter pol r dissat (a ∷ as') = Lighter pol r dissat a × AllLighter pol r dissat as'
 
@@ -97,18 +91,19 @@ AllLighter pol r dissat (a ∷ as') = Lighter pol r dissat a × AllLighter pol r
 pub record Under (pol : List ℕ) (r a : ℕ) : Type 0 where
   pub named : Named pol a
   pub formed : FormedPolicy (policy_at pol a)
-  pub falls : load (policy_at pol a) (Prob.Some 1·) < load (policy_at pol r) Prob.None
+  pub falls : load (policy_at pol a) (Some 1·) < load (policy_at pol r) None
 
-abbrev pub asked_answer : (pol m : List ℕ) → End → List ℕ → Res (List Table)
-asked_answer pol m Done slots = done (map (slot_table pol m) slots) (state_in pol m)
-asked_answer pol m (Refused n) slots = refused n
+-- the tables in the first n slots
+abbrev pub asked_answer : (pol m : List ℕ) (n : ℕ) → Result (List ℕ) Refusal → Res (List Table)
+asked_answer pol m n (Ok slots) = done (map (slot_table pol m) (take n slots)) (state_in pol m)
+asked_answer pol m n (Err e) = refused (number_of e)
 
-pub record AskedAll (c : Context) (pol : List ℕ) (asks : List Ask) (n : ℕ) (r : Asked) (m₀ m : List ℕ) : Type 0 where
-  pub says : ask_all c pol (take n asks) (state_in pol m₀) ≡ asked_answer pol m r.end (take n r.slots)
+pub record AskedAll (c : Context) (pol : List ℕ) (asks : List Ask) (n : ℕ) (r : Result (List ℕ) Refusal) (m₀ m : List ℕ) : Type 0 where
+  pub says : ask_all c pol (take n asks) (state_in pol m₀) ≡ asked_answer pol m n r
   pub ready : Ready pol m
   pub onward : Onward m₀ m
-  pub below : r.end ≡ Done → AllBelow (table_count m) (take n r.slots)
-  pub paid : r.end ≡ Done → Paid 0 m₀ m
+  pub below : (slots : List ℕ) → r ≡ Ok slots → AllBelow (table_count m) (take n slots)
+  pub paid : (slots : List ℕ) → r ≡ Ok slots → Paid 0 m₀ m
 
 -- ---- pairings in a row
 
@@ -126,37 +121,38 @@ unfoldable pub AllPaired : (m slots : List ℕ) → List Pairing → Type 0
 AllPaired m slots [] = Unit {0}
 AllPaired m slots (a ∷ as') = Paired m a slots × AllPaired m slots as'
 
-pub record OffersIfMade (m : List ℕ) (x : code.Made) : Type 0 where
-  pub offers : (y : node.Candidate) → x ≡ Made.Candidate y → Offerable m y
+pub record OffersIfMade (m : List ℕ) (x : Result node.Candidate NotMade) : Type 0 where
+  pub offers : (y : node.Candidate) → x ≡ Ok y → Offerable m y
 
 -- ---- the children of a Thresh
 
-abbrev pub child_dissat : DissatProb → (ratio sat : Float) → DissatProb
-child_dissat dissat ratio sat = Prob.Some (or_none dissat ⊕ (1· ⊖ ratio) ⊗ sat)
+abbrev pub child_dissat : Option Float → (ratio sat : Float) → Option Float
+child_dissat dissat ratio sat = Some (or_none dissat ⊕ (1· ⊖ ratio) ⊗ sat)
 
-abbrev pub best_answer : (pol m : List ℕ) → best.Best → Res Candidate
-best_answer pol m (Best'.At e) = done (seen pol m e) (state_in pol m)
-best_answer pol m (Best'.Refused n) = refused n
+abbrev pub best_answer : (pol m : List ℕ) → Result ℕ Refusal → Res Candidate
+best_answer pol m (Ok e) = done (seen pol m e) (state_in pol m)
+best_answer pol m (Err e) = refused (number_of e)
 
-abbrev pub IsNode : List ℕ → best.Best → Type 0
-IsNode m (Best'.At e) = e < node_count m
-IsNode m (Best'.Refused n) = Unit {0}
+abbrev pub IsNode : List ℕ → Result ℕ Refusal → Type 0
+IsNode m (Ok e) = e < node_count m
+IsNode m (Err e) = Unit {0}
 
-pub record FoundBest (c : Context) (p : Probs) (pol : List ℕ) (q : Policy) (want : Want) (r : best.Best) (m₀ m : List ℕ) : Type 0 where
+pub record FoundBest (c : Context) (p : Probs) (pol : List ℕ) (q : Policy) (want : Want) (r : Result ℕ Refusal) (m₀ m : List ℕ) : Type 0 where
   pub says : then (search c q p (state_in pol m₀)) (λ t. chosen (cheapest p (suits_want want) t)) ≡ best_answer pol m r
   pub ready : Ready pol m
   pub onward : Onward m₀ m
   pub below : IsNode m r
-  pub paid : (e : ℕ) → r ≡ Best'.At e → Paid 0 m₀ m
+  pub paid : (e : ℕ) → r ≡ Ok e → Paid 0 m₀ m
 
-abbrev pub bests_answer : (pol m : List ℕ) → End → List ℕ → List ℕ → Res (List Best)
-bests_answer pol m Done es ws = done (bests_of pol m es ws) (state_in pol m)
-bests_answer pol m (Refused n) es ws = refused n
+-- those of the first n children
+abbrev pub bests_answer : (pol m : List ℕ) (n : ℕ) → Result Bests Refusal → Res (List Best)
+bests_answer pol m n (Ok b) = done (bests_of pol m (take n b.es) (take n b.ws)) (state_in pol m)
+bests_answer pol m n (Err e) = refused (number_of e)
 
-pub record FoundBests (c : Context) (p : Probs) (pol : List ℕ) (q : Policy) (n : ℕ) (r : Bests) (m₀ m : List ℕ) : Type 0 where
-  pub says : bests p (child_searchers c q) (state_in pol m₀) ≡ bests_answer pol m r.end (take n r.es) (take n r.ws)
+pub record FoundBests (c : Context) (p : Probs) (pol : List ℕ) (q : Policy) (n : ℕ) (r : Result Bests Refusal) (m₀ m : List ℕ) : Type 0 where
+  pub says : bests p (child_searchers c q) (state_in pol m₀) ≡ bests_answer pol m n r
   pub ready : Ready pol m
   pub onward : Onward m₀ m
-  pub es : r.end ≡ Done → AllBelow (node_count m) (take n r.es)
-  pub ws : r.end ≡ Done → AllBelow (node_count m) (take n r.ws)
-  pub paid : r.end ≡ Done → Paid 0 m₀ m
+  pub es : (b : Bests) → r ≡ Ok b → AllBelow (node_count m) (take n b.es)
+  pub ws : (b : Bests) → r ≡ Ok b → AllBelow (node_count m) (take n b.ws)
+  pub paid : (b : Bests) → r ≡ Ok b → Paid 0 m₀ m

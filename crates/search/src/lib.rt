@@ -30,13 +30,11 @@ ghost use Rattle.search.specs.Searching.{IsOr, IsThresh, child_searchers, Going,
 ghost use Rattle.search.specs.Searching.{SettledIf, cast_once, AllLighter, Under, AskedAll};
 ghost use Rattle.search.specs.Searching.{AllPlaced, AllPaired, OffersIfMade, child_dissat, FoundBest, FoundBests};
 
-use cache::Found;
-use candidates::{Candidate, Made};
-use choice::{Chosen, Want};
-use closure::{Closed, End};
+use candidates::{Candidate, NotMade};
+use choice::Want;
+use closure::Closed;
 use contexts::Context;
-use costs::DissatProb;
-use search_state::Out;
+use refusals::Refusal;
 use stages::{Ask, Pairing};
 use table::Table;
 
@@ -51,11 +49,6 @@ const OR: u64 = 11;
 
 const THRESH: u64 = 12;
 
-// Document 01's refusals.
-const NOT_A_COST: u8 = 10;
-
-const LIMITS_EXCEEDED: u8 = 11;
-
 // What a pairing leaves: the table, and whether it is known to be settled.
 #[derive(Clone, Copy)]
 pub struct Outcome {
@@ -63,26 +56,11 @@ pub struct Outcome {
     pub settled: bool,
 }
 
-// The slots of the tables that were asked for, in order, or a refusal.
-#[derive(Clone, Copy)]
-pub struct Asked {
-    pub slots: [u16; 8],
-    pub end: End,
-}
-
-// The best entry of a table, or a refusal.
-#[derive(Clone, Copy)]
-pub enum Best {
-    At(u16),
-    Refused(u8),
-}
-
-// The best expressions of a Thresh's children as E and as W, or a refusal.
+// The best expressions of a Thresh's children as E and as W.
 #[derive(Clone, Copy)]
 pub struct Bests {
     pub es: [u16; 16],
     pub ws: [u16; 16],
-    pub end: End,
 }
 
 // The table of the policy.
@@ -93,14 +71,14 @@ pub fn search(
     work: &mut [u64],
     r: usize,
     sat: f64,
-    dissat: DissatProb,
-) -> Out
+    dissat: Option<f64>,
+) -> Result<u16, Refusal>
     requires { Going 0 pol.now r dissat work.old }
     ensures { Searched (search context (policy_at pol.now r) (probs sat dissat) (state_in pol.now work.old)) pol.now result work.old work.new }
 {
     match search_state::recall(pol, work, r, sat, dissat) {
-        Found::At(s) => Out::Slot(s),
-        Found::Missing => {
+        Some(s) => Ok(s),
+        None => {
             let c = body(context, pol, work, r, sat, dissat);
             search_state::remember(pol, work, r, sat, dissat, c)
         }
@@ -115,18 +93,15 @@ fn body(
     work: &mut [u64],
     r: usize,
     sat: f64,
-    dissat: DissatProb,
+    dissat: Option<f64>,
 ) -> Closed
     requires { Going 0 pol.now r dissat work.old }
     ensures { Tabled 1 (body_in context (policy_at pol.now r) (probs sat dissat) (state_in pol.now work.old)) pol.now result work.old work.new }
 {
     let head = policies::head_of(pol, r);
-    let kind = head.kind;
-    if kind == AND {
-        return and_body(context, pol, work, r, sat, dissat);
-    }
-    if kind == OR {
-        return or_body(
+    match head.kind {
+        AND => and_body(context, pol, work, r, sat, dissat),
+        OR => or_body(
             context,
             pol,
             work,
@@ -135,10 +110,8 @@ fn body(
             dissat,
             head.left_weight as u32,
             head.right_weight as u32,
-        );
-    }
-    if kind == THRESH {
-        return thresh_body(
+        ),
+        THRESH => thresh_body(
             context,
             pol,
             work,
@@ -147,9 +120,9 @@ fn body(
             dissat,
             head.k as u16,
             head.count,
-        );
+        ),
+        kind => leaves(context, pol, work, r, sat, dissat, kind, head.number),
     }
-    leaves(context, pol, work, r, sat, dissat, kind, head.number)
 }
 
 // The table of a leaf.
@@ -160,7 +133,7 @@ fn leaves(
     work: &mut [u64],
     r: usize,
     sat: f64,
-    dissat: DissatProb,
+    dissat: Option<f64>,
     kind: u64,
     number: u64,
 ) -> Closed
@@ -180,7 +153,7 @@ fn leaves(
             offers::empty(),
             false,
         );
-        let settled = search_state::settles(pol, work, r, sat, dissat, Made::Candidate(h));
+        let settled = search_state::settles(pol, work, r, sat, dissat, Ok(h));
         return wrapped(
             context,
             pol,
@@ -214,7 +187,7 @@ fn and_body(
     work: &mut [u64],
     r: usize,
     sat: f64,
-    dissat: DissatProb,
+    dissat: Option<f64>,
 ) -> Closed
     requires { Going 0 pol.now r dissat work.old × (kind_of (policy_at pol.now r) ≡ 10) }
     ensures { Tabled 0 (body_in context (policy_at pol.now r) (probs sat dissat) (state_in pol.now work.old)) pol.now result work.old work.new }
@@ -246,7 +219,7 @@ fn or_body(
     work: &mut [u64],
     r: usize,
     sat: f64,
-    dissat: DissatProb,
+    dissat: Option<f64>,
     left_weight: u32,
     right_weight: u32,
 ) -> Closed
@@ -287,7 +260,7 @@ fn and_ors(
     work: &mut [u64],
     r: usize,
     sat: f64,
-    dissat: DissatProb,
+    dissat: Option<f64>,
     a: usize,
     other: usize,
     w: f64,
@@ -316,7 +289,7 @@ fn stage(
     work: &mut [u64],
     r: usize,
     sat: f64,
-    dissat: DissatProb,
+    dissat: Option<f64>,
     asks: [Ask; 8],
     n: usize,
     pairings: [Pairing; 10],
@@ -326,40 +299,15 @@ fn stage(
     requires { Doing pol.now r dissat c work.old × ((n ≤ 8) × (AllLighter pol.now r dissat (take n asks) × ((k ≤ 10) × AllPlaced n (take k pairings)))) }
     ensures { Tabled 0 (then (table_answer pol.now work.old c) (λ t. staged context pol.now (probs sat dissat) (again_in context (policy_at pol.now r) (probs sat dissat)) (take n asks) (take k pairings) t)) pol.now result work.old work.new }
 {
-    let table = c.table;
-    let end = c.end;
-    match end {
-        End::Refused(no) => {
-            return Closed {
-                table,
-                end: End::Refused(no),
-            };
-        }
-        End::Done => {}
+    if c.end.is_err() {
+        return c;
     }
-    let asked = search_all(context, pol, work, r, dissat, asks, n);
-    let slots = asked.slots;
-    let stop = asked.end;
-    match stop {
-        End::Refused(no) => Closed {
-            table,
-            end: End::Refused(no),
+    match search_all(context, pol, work, r, dissat, asks, n) {
+        Err(no) => Closed {
+            table: c.table,
+            end: Err(no),
         },
-        End::Done => pair_all(
-            context,
-            pol,
-            work,
-            r,
-            sat,
-            dissat,
-            pairings,
-            k,
-            slots,
-            Closed {
-                table,
-                end: End::Done,
-            },
-        ),
+        Ok(slots) => pair_all(context, pol, work, r, sat, dissat, pairings, k, slots, c),
     }
 }
 
@@ -370,35 +318,19 @@ fn search_all(
     pol: &[u64],
     work: &mut [u64],
     r: usize,
-    dissat: DissatProb,
+    dissat: Option<f64>,
     asks: [Ask; 8],
     n: usize,
-) -> Asked
+) -> Result<[u16; 8], Refusal>
     requires { Going 1 pol.now r dissat work.old × ((n ≤ 8) × AllLighter pol.now r dissat (take n asks)) }
     ensures { AskedAll context pol.now asks n result work.old work.new }
 {
-    let mut slots = [0u16; 8];
-    let mut j = 0;
-    while j < n {
+    let mut slots = [0; 8];
+    for j in 0..n {
         let a = asks[j];
-        let d = a.dissat;
-        match search(context, pol, work, a.r, a.sat, d) {
-            Out::Refused(no) => {
-                return Asked {
-                    slots,
-                    end: End::Refused(no),
-                };
-            }
-            Out::Slot(s) => {
-                slots[j] = s;
-            }
-        }
-        j += 1;
+        slots[j] = search(context, pol, work, a.r, a.sat, a.dissat)?;
     }
-    Asked {
-        slots,
-        end: End::Done,
-    }
+    Ok(slots)
 }
 
 // The pairings, one after another: a table that one of them settled stays so.
@@ -409,7 +341,7 @@ fn pair_all(
     work: &mut [u64],
     r: usize,
     sat: f64,
-    dissat: DissatProb,
+    dissat: Option<f64>,
     pairings: [Pairing; 10],
     k: usize,
     slots: [u16; 8],
@@ -420,13 +352,11 @@ fn pair_all(
 {
     let mut done = c;
     let mut settled = false;
-    let mut i = 0;
-    while i < k {
+    for i in 0..k {
         let a = pairings[i];
         let next = pair(context, pol, work, r, sat, dissat, a, slots, done, settled);
         done = next.closed;
         settled = next.settled;
-        i += 1;
     }
     done
 }
@@ -440,7 +370,7 @@ fn pair(
     work: &mut [u64],
     r: usize,
     sat: f64,
-    dissat: DissatProb,
+    dissat: Option<f64>,
     a: Pairing,
     slots: [u16; 8],
     c: Closed,
@@ -452,8 +382,7 @@ fn pair(
     let many = pairing::count(work, a, slots);
     let mut done = c;
     let mut settled = already;
-    let mut i = 0;
-    while i < many {
+    for i in 0..many {
         let x = pairing::made(work, a, slots, i);
         if !offers::leaves_all(
             work,
@@ -469,7 +398,6 @@ fn pair(
                 settled = search_state::settles(pol, work, r, sat, dissat, x);
             }
         }
-        i += 1;
     }
     Outcome {
         closed: done,
@@ -485,8 +413,8 @@ fn wrapped_if_made(
     work: &mut [u64],
     r: usize,
     sat: f64,
-    dissat: DissatProb,
-    x: Made,
+    dissat: Option<f64>,
+    x: Result<Candidate, NotMade>,
     c: Closed,
     settled: bool,
 ) -> Closed
@@ -494,22 +422,12 @@ fn wrapped_if_made(
     ensures { Tabled 0 (then (table_answer pol.now work.old c) (λ t. wrapped_if_made context (probs sat dissat) (again_in context (policy_at pol.now r) (probs sat dissat)) (made_seen pol.now work.old x) t)) pol.now result work.old work.new }
 {
     match x {
-        Made::Candidate(y) => wrapped(context, pol, work, r, sat, dissat, y, c, settled),
-        Made::PassedOver => c,
-        Made::Missing => {
-            let table = c.table;
-            let end = c.end;
-            match end {
-                End::Refused(no) => Closed {
-                    table,
-                    end: End::Refused(no),
-                },
-                End::Done => Closed {
-                    table,
-                    end: End::Refused(NOT_A_COST),
-                },
-            }
-        }
+        Ok(y) => wrapped(context, pol, work, r, sat, dissat, y, c, settled),
+        Err(NotMade::PassedOver) => c,
+        Err(NotMade::Missing) => Closed {
+            table: c.table,
+            end: c.end.and(Err(Refusal::NotACost)),
+        },
     }
 }
 
@@ -521,7 +439,7 @@ fn wrapped(
     work: &mut [u64],
     r: usize,
     sat: f64,
-    dissat: DissatProb,
+    dissat: Option<f64>,
     x: Candidate,
     c: Closed,
     settled: bool,
@@ -529,24 +447,17 @@ fn wrapped(
     requires { Doing pol.now r dissat c work.old × Offerable work.old x × SettledIf settled context pol.now r sat dissat c work.old }
     ensures { Tabled 0 (then (table_answer pol.now work.old c) (λ t. wrapped context (probs sat dissat) (again_in context (policy_at pol.now r) (probs sat dissat)) (offered pol.now work.old x) t)) pol.now result work.old work.new }
 {
-    let table = c.table;
-    let end = c.end;
-    match end {
-        End::Refused(no) => Closed {
-            table,
-            end: End::Refused(no),
-        },
-        End::Done => {
-            let closed = closure::insert_closure(context, work, sat, dissat, x, table);
-            match dissat {
-                DissatProb::None => closed,
-                DissatProb::Some(_) => {
-                    if settled {
-                        return closed;
-                    }
-                    casts_of(context, pol, work, r, sat, dissat, closed)
-                }
+    if c.end.is_err() {
+        return c;
+    }
+    let closed = closure::insert_closure(context, work, sat, dissat, x, c.table);
+    match dissat {
+        None => closed,
+        Some(_) => {
+            if settled {
+                return closed;
             }
+            casts_of(context, pol, work, r, sat, dissat, closed)
         }
     }
 }
@@ -559,43 +470,23 @@ fn casts_of(
     work: &mut [u64],
     r: usize,
     sat: f64,
-    dissat: DissatProb,
+    dissat: Option<f64>,
     c: Closed,
 ) -> Closed
     requires { Doing pol.now r dissat c work.old × (flag_of dissat ≡ 1) }
     ensures { Tabled 0 (then (table_answer pol.now work.old c) (λ t. casts_of context (probs sat dissat) (search context (policy_at pol.now r) (without (probs sat dissat))) (all_casts context) t)) pol.now result work.old work.new }
 {
-    let mut table = c.table;
-    let end = c.end;
-    match end {
-        End::Refused(no) => {
-            return Closed {
-                table,
-                end: End::Refused(no),
-            };
+    if c.end.is_err() {
+        return c;
+    }
+    let mut done = c;
+    for number in 0..CASTS {
+        done = cast_once(context, pol, work, r, sat, dissat, number, done.table);
+        if done.end.is_err() {
+            return done;
         }
-        End::Done => {}
     }
-    let mut number: u8 = 0;
-    while number < CASTS {
-        let next = cast_once(context, pol, work, r, sat, dissat, number, table);
-        table = next.table;
-        let stop = next.end;
-        match stop {
-            End::Refused(no) => {
-                return Closed {
-                    table,
-                    end: End::Refused(no),
-                };
-            }
-            End::Done => {}
-        }
-        number += 1;
-    }
-    Closed {
-        table,
-        end: End::Done,
-    }
+    done
 }
 
 // One cast of what the search without dissatisfaction found.
@@ -606,19 +497,19 @@ fn cast_once(
     work: &mut [u64],
     r: usize,
     sat: f64,
-    dissat: DissatProb,
+    dissat: Option<f64>,
     number: u8,
     t: Table,
 ) -> Closed
     requires { (Going 1 pol.now r dissat work.old × TableHolds work.old t) × ((flag_of dissat ≡ 1) × (number < 10)) }
     ensures { Tabled 0 (cast_once context (probs sat dissat) (search context (policy_at pol.now r) (without (probs sat dissat))) (cast_no context number) (seen_table pol.now work.old t) (state_in pol.now work.old)) pol.now result work.old work.new }
 {
-    match search(context, pol, work, r, sat, DissatProb::None) {
-        Out::Refused(no) => Closed {
+    match search(context, pol, work, r, sat, None) {
+        Err(no) => Closed {
             table: t,
-            end: End::Refused(no),
+            end: Err(no),
         },
-        Out::Slot(s) => offers::cast_entries(context, work, sat, dissat, s, number, t),
+        Ok(s) => offers::cast_entries(context, work, sat, dissat, s, number, t),
     }
 }
 
@@ -630,7 +521,7 @@ fn thresh_body(
     work: &mut [u64],
     r: usize,
     sat: f64,
-    dissat: DissatProb,
+    dissat: Option<f64>,
     k: u16,
     n: usize,
 ) -> Closed
@@ -640,23 +531,17 @@ fn thresh_body(
     let ratio = k as f64 / (n as u16) as f64;
     let child_sat = sat * ratio;
     let child_dissat = child_dissat(dissat, ratio, sat);
-    let b = all_bests(context, pol, work, r, dissat, n, child_sat, child_dissat);
-    let es = b.es;
-    let ws = b.ws;
-    let end = b.end;
-    match end {
-        End::Refused(no) => {
-            let none = offers::empty();
-            let table = none.table;
+    let b = match all_bests(context, pol, work, r, dissat, n, child_sat, child_dissat) {
+        Err(no) => {
             return Closed {
-                table,
-                end: End::Refused(no),
+                table: offers::empty().table,
+                end: Err(no),
             };
         }
-        End::Done => {}
-    }
-    let gaining = choice::most_gaining(work, es, ws, n, child_sat, child_dissat);
-    let row = choice::arrange(es, ws, n, gaining);
+        Ok(b) => b,
+    };
+    let gaining = choice::most_gaining(work, b.es, b.ws, n, child_sat, child_dissat);
+    let row = choice::arrange(b.es, b.ws, n, gaining);
     let x = choice::thresh_made(context, work, r as u16, k, n as u16, row);
     let one = wrapped_if_made(
         context,
@@ -674,13 +559,10 @@ fn thresh_body(
 }
 
 // The probability of dissatisfaction of a Thresh's child.
-fn child_dissat(dissat: DissatProb, ratio: f64, sat: f64) -> DissatProb
+fn child_dissat(dissat: Option<f64>, ratio: f64, sat: f64) -> Option<f64>
     ensures { result ≡ child_dissat dissat ratio sat }
 {
-    match dissat {
-        DissatProb::Some(d) => DissatProb::Some(d + (1.0 - ratio) * sat),
-        DissatProb::None => DissatProb::Some(0.0 + (1.0 - ratio) * sat),
-    }
+    Some(dissat.unwrap_or(0.0) + (1.0 - ratio) * sat)
 }
 
 // The best expressions of the n children of a Thresh, each searched twice, as E and as W.
@@ -690,50 +572,22 @@ fn all_bests(
     pol: &[u64],
     work: &mut [u64],
     r: usize,
-    dissat: DissatProb,
+    dissat: Option<f64>,
     n: usize,
     child_sat: f64,
-    child_dissat: DissatProb,
-) -> Bests
+    child_dissat: Option<f64>,
+) -> Result<Bests, Refusal>
     requires { Going 1 pol.now r dissat work.old × ((kind_of (policy_at pol.now r) ≡ 12) × (length (children_of (policy_at pol.now r)) ≡ n)) }
     ensures { FoundBests context (probs child_sat child_dissat) pol.now (policy_at pol.now r) n result work.old work.new }
 {
-    let mut es = [0u16; 16];
-    let mut ws = [0u16; 16];
-    let mut j = 0;
-    while j < n {
+    let mut es = [0; 16];
+    let mut ws = [0; 16];
+    for j in 0..n {
         let a = policies::child(pol, r, j);
-        match best_of(context, pol, work, a, child_sat, child_dissat, Want::E) {
-            Best::Refused(no) => {
-                return Bests {
-                    es,
-                    ws,
-                    end: End::Refused(no),
-                };
-            }
-            Best::At(e) => {
-                es[j] = e;
-            }
-        }
-        match best_of(context, pol, work, a, child_sat, child_dissat, Want::W) {
-            Best::Refused(no) => {
-                return Bests {
-                    es,
-                    ws,
-                    end: End::Refused(no),
-                };
-            }
-            Best::At(w) => {
-                ws[j] = w;
-            }
-        }
-        j += 1;
+        es[j] = best_of(context, pol, work, a, child_sat, child_dissat, Want::E)?;
+        ws[j] = best_of(context, pol, work, a, child_sat, child_dissat, Want::W)?;
     }
-    Bests {
-        es,
-        ws,
-        end: End::Done,
-    }
+    Ok(Bests { es, ws })
 }
 
 // The best entry, of those that are wanted, of the policy's table.
@@ -744,19 +598,14 @@ fn best_of(
     work: &mut [u64],
     r: usize,
     sat: f64,
-    dissat: DissatProb,
+    dissat: Option<f64>,
     want: Want,
-) -> Best
+) -> Result<u16, Refusal>
     requires { Going 0 pol.now r dissat work.old }
     ensures { FoundBest context (probs sat dissat) pol.now (policy_at pol.now r) want result work.old work.new }
 {
-    match search(context, pol, work, r, sat, dissat) {
-        Out::Refused(no) => Best::Refused(no),
-        Out::Slot(s) => match choice::choose(work, s, sat, dissat, want) {
-            Chosen::At(e) => Best::At(e),
-            Chosen::Missing => Best::Refused(LIMITS_EXCEEDED),
-        },
-    }
+    let s = search(context, pol, work, r, sat, dissat)?;
+    choice::choose(work, s, sat, dissat, want).ok_or(Refusal::LimitsExceeded)
 }
 
 // k of n keys, if all children of a Thresh are keys.
@@ -767,7 +616,7 @@ fn multi(
     work: &mut [u64],
     r: usize,
     sat: f64,
-    dissat: DissatProb,
+    dissat: Option<f64>,
     k: u16,
     n: usize,
     c: Closed,
@@ -790,7 +639,7 @@ fn folded(
     work: &mut [u64],
     r: usize,
     sat: f64,
-    dissat: DissatProb,
+    dissat: Option<f64>,
     k: u16,
     n: usize,
     c: Closed,
@@ -801,29 +650,18 @@ fn folded(
     if k as usize != n {
         return c;
     }
-    let table = c.table;
-    let end = c.end;
-    match end {
-        End::Refused(no) => {
-            return Closed {
-                table,
-                end: End::Refused(no),
-            };
-        }
-        End::Done => {}
+    if c.end.is_err() {
+        return c;
     }
     let f = policies::folded_of(pol, r, n);
     match search(context, pol, work, f, sat, dissat) {
-        Out::Refused(no) => Closed {
-            table,
-            end: End::Refused(no),
+        Err(no) => Closed {
+            table: c.table,
+            end: Err(no),
         },
-        Out::Slot(s) => {
-            let folded_table = search_state::table_of(work, s);
-            Closed {
-                table: folded_table,
-                end: End::Done,
-            }
-        }
+        Ok(s) => Closed {
+            table: search_state::table_of(work, s),
+            end: Ok(()),
+        },
     }
 }

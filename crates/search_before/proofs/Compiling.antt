@@ -2,7 +2,7 @@
 -- definition's insertion. Assumes nothing.
 use mathlib.Core.Bool.{Bool, true, false, cond, ◌&&◌}
 use mathlib.Core.List.{List, []}
-use mathlib.Core.Option.{Option, none, some}
+use Rattle.std.specs.Prelude.{Option, None, Some}
 use mathlib.Core.Path.{◌≡◌, refl, sym, ap, ◌∙◌}
 use Prim.Native.Nat.{ℕ}
 use lib.Dec.{leb}
@@ -71,16 +71,16 @@ pub as_before : AsBefore
 unfolding compile compile_before
 as_before context work_fits policy room n = in-context (context_of context) refl
   where
-    when-read : (c : Context) → context_of context ≡ some c → (a : Reading.Answer Policy) → read_policy policy ≡ a →
+    when-read : (c : Context) → context_of context ≡ Some c → (a : Reading.Answer Policy) → read_policy policy ≡ a →
         compile_read c room a ≡ read_before c room a
     when-read c e (Reading.refused m) h = refl
     when-read c e (Reading.done q) h = policy-as-before c room q (n c q e h)
 
-    when-fits : (c : Context) → context_of context ≡ some c → (b : Bool) →
+    when-fits : (c : Context) → context_of context ≡ Some c → (b : Bool) →
         cond b (compile_read c room (read_policy policy)) (refused_with BadWork) ≡ cond b (read_before c room (read_policy policy)) (refused_with BadWork)
     when-fits c e true = when-read c e (read_policy policy) refl
     when-fits c e false = refl
 
     in-context : (o : Option Context) → context_of context ≡ o → compile_in context work_fits room policy o ≡ in_before work_fits room policy o
-    in-context none e = refl
-    in-context (some c) e = when-fits c e work_fits
+    in-context None e = refl
+    in-context (Some c) e = when-fits c e work_fits

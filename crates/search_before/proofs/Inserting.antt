@@ -1,6 +1,6 @@
 -- Closures over insertions that are alike are alike; the third is the definition's own. Assumes nothing.
 use mathlib.Core.List.{List, [], ◌∷◌}
-use mathlib.Core.Option.{Option, none, some}
+use Rattle.std.specs.Prelude.{Option, None, Some}
 use Prim.Native.Nat.{ℕ, zero, suc}
 use Rattle.contexts.specs.declared.Context.{Context}
 use Rattle.definition.specs.Candidates.{Candidate, Cast, all_casts}
@@ -22,8 +22,8 @@ next-alike (x ∷ q) t h = h x q
 
 module _ {Stops : ℕ → Type 0} {c : Context} {i j : Insertion} (alike : AlikeInsertions Stops c i j) (p : Probs) where
   offer-alike : (x : Option Candidate) (w : Queued) → Alike Stops (offer_by i c p x w) (offer_by j c p x w) (offer c p x w)
-  offer-alike none w = itself
-  offer-alike (some x) w = bind-alike (alike.each p x w.table) λ o. itself
+  offer-alike None w = itself
+  offer-alike (Some x) w = bind-alike (alike.each p x w.table) λ o. itself
 
   cast_all-alike : (x : Candidate) (fs : List Cast) (w : Queued) →
       Alike Stops (cast_all_by i c p x fs w) (cast_all_by j c p x fs w) (cast_all c p x fs w)
@@ -40,4 +40,4 @@ module _ {Stops : ℕ → Type 0} {c : Context} {i j : Insertion} (alike : Alike
   pub insert_closure-alike : (x : Candidate) (t : Table) →
       Alike Stops (insert_closure_by i c p x t) (insert_closure_by j c p x t) (insert_closure c p x t)
   unfolding insert_closure_by insert_closure
-  insert_closure-alike x t = bind-alike (offer-alike (some x) (queued t [])) λ w. closure-alike max_pops w
+  insert_closure-alike x t = bind-alike (offer-alike (Some x) (queued t [])) λ w. closure-alike max_pops w

@@ -1,15 +1,13 @@
 -- Searches over insertions that are alike are alike, the third being the definition's own: by induction on the policy. Assumes nothing.
 use mathlib.Core.Bool.{Bool, true, false, cond}
 use mathlib.Core.List.{List, [], ◌∷◌}
-use mathlib.Core.Option.{Option, none, some}
+use Rattle.std.specs.Prelude.{Option, None, Some}
 use mathlib.Core.Path.{◌≡◌, refl, ap, ap₂, subst}
 use Prim.Native.Nat.{ℕ, zero, suc}
 use lib.Dec.{eqb}
 use lib.ListN.{length}
 use lib.Ieee.{Float, inf}
 use Rattle.contexts.specs.declared.Context.{Context}
-use Rattle.costs.specs.declared.DissatProb.{DissatProb}
-use Rattle.costs.specs.declared.DissatProb.TheVariants as Prob
 use Rattle.costs.specs.Arithmetic.{◌⊕◌, ◌⊖◌, ◌⊗◌, ◌⊘◌, float_of, 0·, 1·}
 use Rattle.costs.specs.Weights.{weights}
 use Rattle.policies.specs.Policy.{Policy, Policies, end, ◌▹◌, Unsatisfiable, Trivial, Key, Lock, Hash, And, Or, Thresh}
@@ -92,18 +90,18 @@ module _ {Stops : ℕ → Type 0} where
   for_each-alike h (x ∷ xs) t = bind-alike (h x t) λ t. for_each-alike h xs t
 
   found_or-alike : (o : Option Table) {m m₁ m₂ : M Table} → Alike Stops m m₁ m₂ → Alike Stops (found_or o m) (found_or o m₁) (found_or o m₂)
-  found_or-alike none h = h
-  found_or-alike (some t) h = itself
+  found_or-alike None h = h
+  found_or-alike (Some t) h = itself
 
   remembering-alike : (q : Policy) (p : Probs) {m m₁ m₂ : M Table} → Alike Stops m m₁ m₂ →
       Alike Stops (remembering q p m) (remembering q p m₁) (remembering q p m₂)
   unfolding remembering
   remembering-alike q p h = record { from = λ s. (found_or-alike (lookup q p s.stored) (bind-alike h λ t. itself)).from s }
 
-  again-alike : (q : Policy) {b b₁ b₂ : Body} (p : Probs) (d : DissatProb) → AlikeBodies Stops b b₁ b₂ →
+  again-alike : (q : Policy) {b b₁ b₂ : Body} (p : Probs) (d : Option Float) → AlikeBodies Stops b b₁ b₂ →
       AlikeAgain Stops (again_at q b p d) (again_at q b₁ p d) (again_at q b₂ p d)
-  again-alike q p Prob.None h = alone_all
-  again-alike q p (Prob.Some d) h = redo_all (remembering-alike q (without p) (h (without p) alone alone alone alone_all))
+  again-alike q p None h = alone_all
+  again-alike q p (Some d) h = redo_all (remembering-alike q (without p) (h (without p) alone alone alone alone_all))
 
   searching-alike : (q : Policy) {b b₁ b₂ : Body} → AlikeBodies Stops b b₁ b₂ → (p : Probs) →
       Alike Stops (searching q b p) (searching q b₁ p) (searching q b₂ p)
@@ -142,8 +140,8 @@ module _ {Stops : ℕ → Type 0} where
 module _ {Stops : ℕ → Type 0} {c : Context} {i j : Insertion} (alike : AlikeInsertions Stops c i j) where
   inserted-alike : (p : Probs) (x : Option Candidate) (t : Table) →
       Alike Stops (inserted_if_typed_by i c p x t) (inserted_if_typed_by j c p x t) (inserted_if_typed c p x t)
-  inserted-alike p none t = itself
-  inserted-alike p (some x) t = insert_closure-alike alike p x t
+  inserted-alike p None t = itself
+  inserted-alike p (Some x) t = insert_closure-alike alike p x t
 
   casts_of-alike : (p : Probs) {m m₁ m₂ : M Table} → Alike Stops m m₁ m₂ → (fs : List Cast) (t : Table) →
       Alike Stops (casts_of_by i c p m fs t) (casts_of_by j c p m₁ fs t) (casts_of c p m₂ fs t)
@@ -178,8 +176,8 @@ module _ {Stops : ℕ → Type 0} {c : Context} {i j : Insertion} (alike : Alike
 
     multi-alike : (k : ℕ) (keys : Option (List ℕ)) (t : Table) →
         Alike Stops (multi_of_by i c p g k keys t) (multi_of_by j c p g₁ k keys t) (multi_of c p g₂ k keys t)
-    multi-alike k none t = itself
-    multi-alike k (some keys) t = wrapped-alike p a (multi c k keys) t
+    multi-alike k None t = itself
+    multi-alike k (Some keys) t = wrapped-alike p a (multi c k keys) t
 
   leaves_alike : (xs : Table) → AlikeBodies Stops (leaves_by i c xs) (leaves_by j c xs) (leaves c xs)
   leaves_alike xs p g g₁ g₂ a = for_each-alike (λ x t. wrapped-alike p a x t) xs []
@@ -279,7 +277,7 @@ module _ {Stops : ℕ → Type 0} {c : Context} {i j : Insertion} (alike : Alike
       folded_or-alike p k hs t))
     where
       child : (n : ℕ) → Probs
-      child n = probs (p.sat ⊗ (float_of k ⊘ float_of n)) (Prob.Some (or_none p.dissat ⊕ (1· ⊖ (float_of k ⊘ float_of n)) ⊗ p.sat))
+      child n = probs (p.sat ⊗ (float_of k ⊘ float_of n)) (Some (or_none p.dissat ⊕ (1· ⊖ (float_of k ⊘ float_of n)) ⊗ p.sat))
 
       -- each body over its count of children and its keys
       body : (M (List Best)) → (Made → Table → M Table) → (Table → M Table) → (Table → M Table) → ℕ → M Table

@@ -1,11 +1,9 @@
 -- The search of crate `definition` (specs/Insertion.antt and specs/Search.antt), clause by clause, over any way of inserting a candidate into a
 -- table: what it asks of other tables, and in which order, does not depend on that. `search_is` (proofs/Compiling.antt) shows that with the
 -- definition's own way it is the definition's search. Assumes nothing.
-use Rattle.std.specs.Prelude.{false, cond, List, [], ◌∷◌, ◌≡◌, ℕ, zero, suc, eqb, length, Float}
-use Rattle.std.proofs.Math.Option.{Option, none, some}
+use Rattle.std.specs.Prelude.{false, cond, List, [], ◌∷◌, ◌≡◌, ℕ, zero, suc, eqb, length, Float, Option, None, Some}
 use Rattle.std.specs.Float.{inf}
 use Rattle.contexts.specs.declared.Context.{Context}
-use Rattle.costs.specs.declared.DissatProb.TheVariants as Prob
 use Rattle.costs.specs.Arithmetic.{◌⊕◌, ◌⊖◌, ◌⊗◌, ◌⊘◌, float_of, 0·, 1·}
 use Rattle.costs.specs.Weights.{weights}
 use Rattle.policies.specs.Policy.{Policy, Policies, end, ◌▹◌, Unsatisfiable, Trivial, Key, Lock, Hash, And, Or, Thresh}
@@ -26,8 +24,8 @@ module _ (insert : Insertion) where
   -- ---- the closure
 
   abbrev pub offer_by : Context → Probs → Option Candidate → Queued → M Queued
-  offer_by c p none w = pure w
-  offer_by c p (some x) w = insert c p x w.table >>= λ o. pure (joins x w.queue o)
+  offer_by c p None w = pure w
+  offer_by c p (Some x) w = insert c p x w.table >>= λ o. pure (joins x w.queue o)
 
   unfoldable pub cast_all_by : Context → Probs → Candidate → List Cast → Queued → M Queued
   cast_all_by c p x [] w = pure w
@@ -39,13 +37,13 @@ module _ (insert : Insertion) where
       next w.queue (pure w.table) λ x q. cast_all_by c p x (all_casts c) (queued w.table q) >>= λ w. closure_by c p pops w
 
   unfoldable pub insert_closure_by : Context → Probs → Candidate → Table → M Table
-  insert_closure_by c p x t = offer_by c p (some x) (queued t []) >>= λ w. closure_by c p max_pops w
+  insert_closure_by c p x t = offer_by c p (Some x) (queued t []) >>= λ w. closure_by c p max_pops w
 
   -- ---- wrapping
 
   abbrev pub inserted_if_typed_by : Context → Probs → Option Candidate → Table → M Table
-  inserted_if_typed_by c p none t = pure t
-  inserted_if_typed_by c p (some x) t = insert_closure_by c p x t
+  inserted_if_typed_by c p None t = pure t
+  inserted_if_typed_by c p (Some x) t = insert_closure_by c p x t
 
   unfoldable pub casts_of_by : Context → Probs → M Table → List Cast → Table → M Table
   casts_of_by c p again [] t = pure t
@@ -94,11 +92,11 @@ module _ (insert : Insertion) where
   and_ors_by c p g (plain q f) other w v t = pure t
   and_ors_by c p g (conjunction q f x y) other w v t = do
     let sat = w ⊗ p.sat
-    let dissat = Prob.Some (or_none p.dissat ⊕ v ⊗ p.sat)
+    let dissat = Some (or_none p.dissat ⊕ v ⊗ p.sat)
     a₁ ← search_of x (probs sat dissat)
-    a₂ ← search_of x (probs sat Prob.None)
+    a₂ ← search_of x (probs sat None)
     b₁ ← search_of y (probs sat dissat)
-    b₂ ← search_of y (probs sat Prob.None)
+    b₂ ← search_of y (probs sat None)
     z ← search_of other (probs (v ⊗ p.sat) p.dissat)
     t ← ternary_by c p g w v a₁ b₂ z t
     ternary_by c p g w v b₁ a₂ z t
@@ -123,8 +121,8 @@ module _ (insert : Insertion) where
   -- ---- Thresh
 
   abbrev pub multi_of_by : Context → Probs → Again → ℕ → Option (List ℕ) → Table → M Table
-  multi_of_by c p g k none t = pure t
-  multi_of_by c p g k (some keys) t = wrapped_by c p g (multi c k keys) t
+  multi_of_by c p g k None t = pure t
+  multi_of_by c p g k (Some keys) t = wrapped_by c p g (multi c k keys) t
 
   abbrev pub and_searcher_by : Context → Searcher → Searcher → Searcher
   and_searcher_by c l r =
@@ -141,7 +139,7 @@ module _ (insert : Insertion) where
   unfoldable pub thresh_body_by : Context → ℕ → List Searcher → Body
   thresh_body_by c k ss p g = do
     let k_over_n = float_of k ⊘ float_of (length ss)
-    let child = probs (p.sat ⊗ k_over_n) (Prob.Some (or_none p.dissat ⊕ (1· ⊖ k_over_n) ⊗ p.sat))
+    let child = probs (p.sat ⊗ k_over_n) (Some (or_none p.dissat ⊕ (1· ⊖ k_over_n) ⊗ p.sat))
     bs ← bests child ss
     t ← wrapped_if_made_by c p g (thresh_of c k (arranged (most_gaining child 0 0 (inf false) bs) bs)) []
     t ← multi_of_by c p g k (keys_of ss) t

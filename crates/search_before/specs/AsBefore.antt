@@ -1,6 +1,5 @@
 -- What the test of height changes: nothing, where no candidate over 128 arises in the search. Document 02, R-8, on demand 2. Assumes nothing.
-use Rattle.std.specs.Prelude.{Bool, true, false, not, cond, List, [], ◌≡◌, ℕ, leb}
-use Rattle.std.proofs.Math.Option.{Option, none, some}
+use Rattle.std.specs.Prelude.{Bool, true, false, not, cond, List, [], ◌≡◌, ℕ, leb, Option, None, Some}
 use Rattle.contexts.specs.declared.Context.{Context}
 use Rattle.trees.specs.Height.{max_height}
 use Rattle.policies.specs.Policy.{Policy}
@@ -54,8 +53,8 @@ read_before c room (Reading.refused n) = refused_with n
 read_before c room (Reading.done q) = policy_before c room q
 
 abbrev pub in_before : (work_fits : Bool) → (room : ℕ) → List ℕ → Option Context → Outcome
-in_before work_fits room bytes none = refused_with BadContext
-in_before work_fits room bytes (some c) = cond work_fits (read_before c room (read_policy bytes)) (refused_with BadWork)
+in_before work_fits room bytes None = refused_with BadContext
+in_before work_fits room bytes (Some c) = cond work_fits (read_before c room (read_policy bytes)) (refused_with BadWork)
 
 unfoldable pub compile_before : (context : ℕ) → (work_fits : Bool) → (policy : List ℕ) → (room : ℕ) → Outcome
 compile_before context work_fits policy room = in_before work_fits room policy (context_of context)
@@ -65,5 +64,5 @@ compile_before context work_fits policy room = in_before work_fits room policy (
 abbrev pub AsBefore : Type 0
 AsBefore =
     (context : ℕ) (work_fits : Bool) (policy : List ℕ) (room : ℕ) →
-    ((c : Context) (q : Policy) → context_of context ≡ some c → read_policy policy ≡ Reading.done q → TallArises c q → ⊥) →
+    ((c : Context) (q : Policy) → context_of context ≡ Some c → read_policy policy ≡ Reading.done q → TallArises c q → ⊥) →
     compile context work_fits policy room ≡ compile_before context work_fits policy room

@@ -1,11 +1,13 @@
 -- Searches and work on tables, one after another, as the definition's steps (definition, specs/Refusals.antt). Assumes nothing.
+use Rattle.refusals.specs.declared.Refusal.{Refusal}
+use Rattle.refusals.specs.Numbers.{number_of}
+use Rattle.std.specs.Prelude.{Option, None, Some, Float, Result, Ok, Err}
 use mathlib.Core.Path.{◌≡◌, refl, sym, ap, ◌∙◌, subst}
 use mathlib.Core.List.{List}
 use Prim.Native.Nat.{ℕ, suc, ◌+◌, ◌<◌, ◌≤◌}
 use native.Mathlib.Omega.{arith}
 use Rattle.contexts.specs.declared.Context.{Context}
 use Rattle.policies.specs.Policy.{Policy}
-use Rattle.costs.specs.declared.DissatProb.{DissatProb}
 use Rattle.candidates.specs.declared.Candidate as code
 use Rattle.definition.specs.Tables as definition
 use Rattle.definition.specs.Tables.{Probs}
@@ -13,21 +15,14 @@ use Rattle.definition.specs.Refusals.{State, Stored, Res, done, refused, M, then
 use Rattle.definition.specs.Insertion.{insert_closure}
 use Rattle.definition.specs.Search.{kept, remembering}
 use Rattle.definition_laws.proofs.Steps.{then-done, then-refused, remembering-found, remembering-new}
-use Rattle.cache.specs.declared.Found.{Found}
-use Rattle.cache.specs.declared.Found.TheVariants.{At, Missing}
 use Rattle.memory.specs.Layout.{table_count}
 use Rattle.memory.specs.Layout.{row_count}
 use Rattle.nodes.specs.Views.{offered}
-use Rattle.nodes.specs.Answers.{OneRow}
 use Rattle.table.specs.declared.Table.{Table}
 use Rattle.table.specs.Rows.{TableHolds}
 use Rattle.table.specs.Inserted.{state_of, seen_table}
 use Rattle.closure.specs.declared.Closed.{Closed}
-use Rattle.closure.specs.declared.End.{End}
-use Rattle.closure.specs.declared.End.TheVariants as End
 use Rattle.closure.specs.Closed.{answer, Closes}
-use Rattle.search_state.specs.declared.Out.{Out}
-use Rattle.search_state.specs.declared.Out.TheVariants.{Slot, Refused}
 use Rattle.search_state.specs.State.{stored_all, state_in, slot_table, Ready, Onward, load, Room, Paid}
 use Rattle.search_state.specs.Recalled.{out_answer, table_answer, OneTable, Searched, Tabled, Recalled, found, new, Remembered}
 use Rattle.search_state.proofs.Growing.{onward-refl, onward-trans, extends-onward, extends-stored}
@@ -47,32 +42,28 @@ paid-after b m₀ m₁ m₂ h k = omega arith
 pub paid-off : (m₀ m₁ m₂ : List ℕ) → Paid 1 m₀ m₁ → row_count m₂ ≡ row_count m₁ → table_count m₂ ≡ suc (table_count m₁) → Paid 0 m₀ m₂
 paid-off m₀ m₁ m₂ h r t = omega arith
 
-pub room-kept : (extra : ℕ) (q : Policy) (d : DissatProb) (m₀ m : List ℕ) → Room extra q d m₀ → Paid 0 m₀ m → Room extra q d m
+pub room-kept : (extra : ℕ) (q : Policy) (d : Option Float) (m₀ m : List ℕ) → Room extra q d m₀ → Paid 0 m₀ m → Room extra q d m
 room-kept extra q d m₀ m h k = omega arith
 
 -- what is asked for in turn has room, once a row was made
-pub room-below : (q q' : Policy) (d d' : DissatProb) (m : List ℕ) → load q' d' < load q d → Room 1 q d m → Room 0 q' d' m
+pub room-below : (q q' : Policy) (d d' : Option Float) (m : List ℕ) → load q' d' < load q d → Room 1 q d m → Room 0 q' d' m
 room-below q q' d d' m h k = omega arith
-
--- one row made
-pub row-paid : {m₀ m row : List ℕ} {r : ℕ} → OneRow m₀ m row r → Paid 1 m₀ m
-row-paid one = omega (arith, one.rows, one.tables.count)
 
 -- ---- what an answer tells
 
-module _ {res : Res definition.Table} {pol : List ℕ} {o : Out} {m₀ m : List ℕ} (h : Searched res pol o m₀ m) where
-  pub searched-done : (s : ℕ) → o ≡ Slot s → res ≡ done (slot_table pol m s) (state_in pol m)
+module _ {res : Res definition.Table} {pol : List ℕ} {o : Result ℕ Refusal} {m₀ m : List ℕ} (h : Searched res pol o m₀ m) where
+  pub searched-done : (s : ℕ) → o ≡ Ok s → res ≡ done (slot_table pol m s) (state_in pol m)
   searched-done s e = h.says ∙ ap (out_answer pol m) e
 
-  pub searched-refused : (n : ℕ) → o ≡ Refused n → res ≡ refused n
+  pub searched-refused : (n : Refusal) → o ≡ Err n → res ≡ refused (number_of n)
   searched-refused n e = h.says ∙ ap (out_answer pol m) e
 
 module _ {extra : ℕ} {res : Res definition.Table} {pol : List ℕ} {c : Closed} {m₀ m : List ℕ} (h : Tabled extra res pol c m₀ m) where
-  pub tabled-done : c.end ≡ End.Done → res ≡ done (seen_table pol m c.table) (state_in pol m)
-  tabled-done e = h.says ∙ ap (λ (e : End). answer e (seen_table pol m c.table) (state_in pol m)) e
+  pub tabled-done : c.end ≡ (Ok tt) → res ≡ done (seen_table pol m c.table) (state_in pol m)
+  tabled-done e = h.says ∙ ap (λ (e : Result (Unit {0}) Refusal). answer e (seen_table pol m c.table) (state_in pol m)) e
 
-  pub tabled-refused : (n : ℕ) → c.end ≡ End.Refused n → res ≡ refused n
-  tabled-refused n e = h.says ∙ ap (λ (e : End). answer e (seen_table pol m c.table) (state_in pol m)) e
+  pub tabled-refused : (n : Refusal) → c.end ≡ Err n → res ≡ refused (number_of n)
+  tabled-refused n e = h.says ∙ ap (λ (e : Result (Unit {0}) Refusal). answer e (seen_table pol m c.table) (state_in pol m)) e
 
 -- ---- steps
 
@@ -92,12 +83,12 @@ closes-tabled {pol} {m₀} {m} {c} {p} {x} {t} {r} ready closes =
     }
 
 -- what is done after a refusal is refused
-done-before : (e₁ e₂ : End) (t u : definition.Table) (s v : State) (k : definition.Table → M definition.Table)
-    → then (answer e₁ t s) k ≡ answer e₂ u v → e₂ ≡ End.Done → e₁ ≡ End.Done
+done-before : (e₁ e₂ : Result (Unit {0}) Refusal) (t u : definition.Table) (s v : State) (k : definition.Table → M definition.Table)
+    → then (answer e₁ t s) k ≡ answer e₂ u v → e₂ ≡ (Ok tt) → e₁ ≡ Ok tt
 unfolding then
-done-before End.Done e₂ t u s v k h e = refl
-done-before (End.Refused n) e₂ t u s v k h e =
-    let d : refused n ≡ done u v = h ∙ ap (λ (e : End). answer e u v) e in
+done-before (Ok tt) e₂ t u s v k h e = refl
+done-before (Err n) e₂ t u s v k h e =
+    let d : refused (number_of n) ≡ done u v = h ∙ ap (λ (e : Result (Unit {0}) Refusal). answer e u v) e in
     absurd (let z : ◌≡◌ {A = ℕ} 0 1 = cc in omega arith)
 
 -- one step, then the others on what it answered
@@ -130,38 +121,14 @@ tabled-more {a} b l h =
       paid = λ e. let p = h.paid e in omega arith;
     }
 
--- a search, then work on a table with what it found
-out-before : (o : Out) (e : End) (pol m : List ℕ) (u : definition.Table) (v : State) (k : definition.Table → M definition.Table)
-    → then (out_answer pol m o) k ≡ answer e u v → e ≡ End.Done → (P : Type 0) → ((s : ℕ) → o ≡ Slot s → P) → P
-unfolding then
-out-before (Slot s) e pol m u v k h d P f = f s refl
-out-before (Refused n) e pol m u v k h d P f =
-    let x : refused n ≡ done u v = h ∙ ap (λ (e : End). answer e u v) d in
-    absurd (let z : ◌≡◌ {A = ℕ} 0 1 = cc in omega arith)
-
-pub searched-then : {b : ℕ} {res : Res definition.Table} {pol m₀ m₁ m₂ : List ℕ} {o : Out} {c : Closed} → Searched res pol o m₀ m₁
-    → (k : definition.Table → M definition.Table) → Tabled b (then (out_answer pol m₁ o) k) pol c m₁ m₂ → Tabled b (then res k) pol c m₀ m₂
-searched-then {b} {res} {pol} {m₀} {m₁} {m₂} {o} {c} h k g =
-    record {
-      says = ap (λ (r : Res definition.Table). then r k) h.says ∙ g.says;
-      ready = g.ready;
-      onward = onward-trans h.onward g.onward;
-      table = g.table;
-      paid =
-          λ e.
-          paid-after b m₀ m₁ m₂
-          (out-before o c.end pol m₁ (seen_table pol m₂ c.table) (state_in pol m₂) k g.says e (Paid 0 m₀ m₁) (λ s i. h.paid s i))
-          (g.paid e);
-    }
-
 -- ---- the same, once it is known how the first step ended
 
 -- what a refusal leaves of a table
-refused-tabled : {b n : ℕ} {res : Res definition.Table} {pol m₀ m : List ℕ} → res ≡ refused n → Ready pol m → Onward m₀ m
-    → (c : Closed) → c.end ≡ End.Refused n → TableHolds m c.table → Tabled b res pol c m₀ m
+refused-tabled : {b : ℕ} {n : Refusal} {res : Res definition.Table} {pol m₀ m : List ℕ} → res ≡ refused (number_of n) → Ready pol m → Onward m₀ m
+    → (c : Closed) → c.end ≡ Err n → TableHolds m c.table → Tabled b res pol c m₀ m
 refused-tabled {b} {n} {res} {pol} {m₀} {m} says ready onward c e table =
     record {
-      says = says ∙ sym (ap (λ (e : End). answer e (seen_table pol m c.table) (state_in pol m)) e);
+      says = says ∙ sym (ap (λ (e : Result (Unit {0}) Refusal). answer e (seen_table pol m c.table) (state_in pol m)) e);
       ready = ready;
       onward = onward;
       table = table;
@@ -170,7 +137,7 @@ refused-tabled {b} {n} {res} {pol} {m₀} {m} says ready onward c e table =
 
 module _ {a : ℕ} {res : Res definition.Table} {pol m₀ m₁ : List ℕ} {c₁ : Closed} (h : Tabled a res pol c₁ m₀ m₁)
     (k : definition.Table → M definition.Table) where
-  pub tabled-next : {b : ℕ} {m₂ : List ℕ} {c₂ : Closed} → c₁.end ≡ End.Done
+  pub tabled-next : {b : ℕ} {m₂ : List ℕ} {c₂ : Closed} → c₁.end ≡ Ok tt
       → Tabled b (k (seen_table pol m₁ c₁.table) (state_in pol m₁)) pol c₂ m₁ m₂ → Tabled (a + b) (then res k) pol c₂ m₀ m₂
   tabled-next {b} {m₂} {c₂} e g =
       record {
@@ -181,12 +148,12 @@ module _ {a : ℕ} {res : Res definition.Table} {pol m₀ m₁ : List ℕ} {c₁
         paid = λ d. paid-trans a b m₀ m₁ m₂ (h.paid e) (g.paid d);
       }
 
-  pub tabled-stop : {b : ℕ} (n : ℕ) → c₁.end ≡ End.Refused n → (c : Closed) → c.end ≡ End.Refused n → TableHolds m₁ c.table
+  pub tabled-stop : {b : ℕ} (n : Refusal) → c₁.end ≡ Err n → (c : Closed) → c.end ≡ Err n → TableHolds m₁ c.table
       → Tabled b (then res k) pol c m₀ m₁
   tabled-stop n e c = refused-tabled (then-refused k (tabled-refused h n e)) h.ready h.onward c
 
-module _ {res : Res definition.Table} {pol m₀ m₁ : List ℕ} {o : Out} (h : Searched res pol o m₀ m₁) (k : definition.Table → M definition.Table) where
-  pub searched-next : {b : ℕ} {m₂ : List ℕ} {c : Closed} (s : ℕ) → o ≡ Slot s
+module _ {res : Res definition.Table} {pol m₀ m₁ : List ℕ} {o : Result ℕ Refusal} (h : Searched res pol o m₀ m₁) (k : definition.Table → M definition.Table) where
+  pub searched-next : {b : ℕ} {m₂ : List ℕ} {c : Closed} (s : ℕ) → o ≡ Ok s
       → Tabled b (k (slot_table pol m₁ s) (state_in pol m₁)) pol c m₁ m₂ → Tabled b (then res k) pol c m₀ m₂
   searched-next {b} {m₂} {c} s e g =
       record {
@@ -197,14 +164,14 @@ module _ {res : Res definition.Table} {pol m₀ m₁ : List ℕ} {o : Out} (h : 
         paid = λ d. paid-after b m₀ m₁ m₂ (h.paid s e) (g.paid d);
       }
 
-  pub searched-stop : {b : ℕ} (n : ℕ) → o ≡ Refused n → (c : Closed) → c.end ≡ End.Refused n → TableHolds m₁ c.table
+  pub searched-stop : {b : ℕ} (n : Refusal) → o ≡ Err n → (c : Closed) → c.end ≡ Err n → TableHolds m₁ c.table
       → Tabled b (then res k) pol c m₀ m₁
   searched-stop n e c = refused-tabled (then-refused k (searched-refused h n e)) h.ready h.onward c
 
 -- ---- a search of its own
 
 module _ {pol m : List ℕ} {q : Policy} {p : Probs} (ready : Ready pol m) (body : M definition.Table) where
-  found-searched : {s : ℕ} → Recalled pol m q p (At s) → Searched (remembering q p body (state_in pol m)) pol (Slot s) m m
+  found-searched : {s : ℕ} → Recalled pol m q p (Some s) → Searched (remembering q p body (state_in pol m)) pol (Ok s) m m
   found-searched (found h l) =
       record {
         says = remembering-found q p body (state_in pol m) l;
@@ -214,26 +181,26 @@ module _ {pol m : List ℕ} {q : Policy} {p : Probs} (ready : Ready pol m) (body
         paid = λ s e. paid-refl m;
       }
 
-  new-searched : Recalled pol m q p Missing → remembering q p body (state_in pol m) ≡ then (body (state_in pol m)) (λ t. kept q p t)
+  new-searched : Recalled pol m q p None → remembering q p body (state_in pol m) ≡ then (body (state_in pol m)) (λ t. kept q p t)
   new-searched (new l) = remembering-new q p body (state_in pol m) l
 
   -- a table that is remembered is the answer
-  pub recalled-found : {f : Found} (s : ℕ) → f ≡ At s → Recalled pol m q p f → Searched (remembering q p body (state_in pol m)) pol (Slot s) m m
+  pub recalled-found : {f : Option ℕ} (s : ℕ) → f ≡ Some s → Recalled pol m q p f → Searched (remembering q p body (state_in pol m)) pol (Ok s) m m
   recalled-found s e r = found-searched (subst (Recalled pol m q p) e r)
 
   -- and else what the body leaves is remembered
-  pub recalled-new : {f : Found} → f ≡ Missing → Recalled pol m q p f
+  pub recalled-new : {f : Option ℕ} → f ≡ None → Recalled pol m q p f
       → remembering q p body (state_in pol m) ≡ then (body (state_in pol m)) (λ t. kept q p t)
   recalled-new e r = new-searched (subst (Recalled pol m q p) e r)
 
-kept-before : (e : End) (t u : definition.Table) (s v : State) (k : definition.Table → M definition.Table)
-    → then (answer e t s) k ≡ done u v → e ≡ End.Done
+kept-before : (e : Result (Unit {0}) Refusal) (t u : definition.Table) (s v : State) (k : definition.Table → M definition.Table)
+    → then (answer e t s) k ≡ done u v → e ≡ Ok tt
 unfolding then
-kept-before End.Done t u s v k h = refl
-kept-before (End.Refused n) t u s v k h = absurd (let z : ◌≡◌ {A = ℕ} 0 1 = cc in omega arith)
+kept-before (Ok tt) t u s v k h = refl
+kept-before (Err n) t u s v k h = absurd (let z : ◌≡◌ {A = ℕ} 0 1 = cc in omega arith)
 
 -- the body's table is remembered, and its row is paid for
-pub remembered-searched : {res : Res definition.Table} {pol m₀ m₁ m₂ : List ℕ} {q : Policy} {p : Probs} {c : Closed} {o : Out} → Tabled 1 res pol c m₀ m₁
+pub remembered-searched : {res : Res definition.Table} {pol m₀ m₁ m₂ : List ℕ} {q : Policy} {p : Probs} {c : Closed} {o : Result ℕ Refusal} → Tabled 1 res pol c m₀ m₁
     → Remembered pol q p c o m₁ m₂ → Searched (then res (λ t. kept q p t)) pol o m₀ m₂
 remembered-searched {res} {pol} {m₀} {m₁} {m₂} {q} {p} {c} {o} h g =
     record {
@@ -244,10 +211,10 @@ remembered-searched {res} {pol} {m₀} {m₁} {m₂} {q} {p} {c} {o} h g =
       paid = λ s e. paid o s e g.says g.one;
     }
   where
-    paid : (o : Out) (s : ℕ) → o ≡ Slot s → then (table_answer pol m₁ c) (λ t. kept q p t) ≡ out_answer pol m₂ o → OneTable o m₁ m₂ → Paid 0 m₀ m₂
-    paid (Slot n) s e says one =
+    paid : (o : Result ℕ Refusal) (s : ℕ) → o ≡ Ok s → then (table_answer pol m₁ c) (λ t. kept q p t) ≡ out_answer pol m₂ o → OneTable o m₁ m₂ → Paid 0 m₀ m₂
+    paid (Ok n) s e says one =
         paid-off m₀ m₁ m₂
         (h.paid
         (kept-before c.end (seen_table pol m₁ c.table) (slot_table pol m₂ n) (state_in pol m₁) (state_in pol m₂) (λ t. kept q p t) says))
         g.rows one
-    paid (Refused n) s e says one = absurd (let z : ◌≡◌ {A = ℕ} 0 1 = cc in omega arith)
+    paid (Err n) s e says one = absurd (let z : ◌≡◌ {A = ℕ} 0 1 = cc in omega arith)

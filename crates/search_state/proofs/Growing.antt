@@ -8,7 +8,7 @@ use Rattle.definition.specs.Candidates.{Candidate}
 use Rattle.definition.specs.Tables as definition
 use Rattle.definition.specs.Refusals.{state, Stored}
 use Rattle.memory.specs.Layout.{table_count}
-use Rattle.cache.specs.Slots.{Slot, slot_at, slots_up_to}
+use Rattle.cache.specs.Slots.{slot_at, slots_up_to}
 use Rattle.cache.proofs.Tables.{slot_same}
 use Rattle.memory.specs.Layout.{node_count}
 use Rattle.nodes.specs.Views.{seen, seen_all}
@@ -17,7 +17,7 @@ use Rattle.nodes.proofs.Grown.{grows-refl, grows-trans, seen-kept}
 use Rattle.table.specs.declared.Table.{Table}
 use Rattle.table.specs.Rows.{rows, TableHolds}
 use Rattle.table.specs.Inserted.{seen_table, Extends}
-use Rattle.search_state.specs.State.{stored_as, stored_all, state_in, slot_table, SlotHolds, Ready, Onward}
+use Rattle.search_state.specs.State.{stored_as, stored_all, state_in, SlotHolds, Ready, Onward}
 
 -- ---- going on
 
@@ -55,12 +55,6 @@ module _ {pol m₀ m : List ℕ} (ready : Ready pol m₀) (onward : Onward m₀ 
 
   pub onward-holds : (t : Table) → TableHolds m₀ t → TableHolds m t
   onward-holds t h = record { few = h.few; below = below_more (node_count m₀) (node_count m) (rows t) onward.grows.more h.below }
-
-  -- a table that is remembered
-  pub onward-slot : (s : ℕ) → s < table_count m₀ → slot_table pol m s ≡ slot_table pol m₀ s
-  onward-slot s h =
-      ap (λ (t : Slot). seen_all pol m t.entries) (onward.slots s h)
-      ∙ entries-kept ready.nodes onward.grows pol (slot_at m₀ s).entries (ready.slots s h).below
 
   pub slot-holds : (s : ℕ) → s < table_count m₀ → SlotHolds pol m (slot_at m s)
   slot-holds s h =

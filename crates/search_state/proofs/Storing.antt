@@ -1,4 +1,7 @@
 -- A table is remembered: nodes stay as they are, and the definition remembers it as the newest. Assumes nothing.
+use Rattle.refusals.specs.declared.Refusal.{Refusal}
+use Rattle.std.specs.Prelude.{Option, Result, Ok, Err}
+use Rattle.std.specs.Option.{ok_or}
 use mathlib.Core.Path.{◌≡◌, refl, sym, ap, ◌∙◌, subst}
 use mathlib.Core.Bool.{Bool, true, false}
 use mathlib.Core.List.{List, [], ◌∷◌, map}
@@ -12,7 +15,6 @@ use lib.Seq.{length-take-le}
 use Rattle.policies.specs.Policy.{Policy}
 use Rattle.policies.specs.Array.{policy_at, Named}
 use Rattle.classes.specs.Classes.{class_at}
-use Rattle.costs.specs.declared.DissatProb.{DissatProb}
 use Rattle.writing.specs.WellFormed.{AllBelow}
 use Rattle.figures.specs.Bounds.{Entered}
 use Rattle.candidates.specs.declared.Candidate as code
@@ -22,8 +24,6 @@ use Rattle.definition.specs.Refusals.{State, state, Stored, done, refused, then,
 use Rattle.definition.specs.Refusals as limits
 use Rattle.definition.specs.Search.{kept}
 use Rattle.definition_laws.proofs.Steps.{then-done, then-refused, kept-empty, kept-kept, kept_full}
-use Rattle.cache.specs.declared.Stored as remembered
-use Rattle.cache.specs.declared.Stored.TheVariants.{At, Full}
 use Rattle.memory.specs.Layout.{max_tables, table_count}
 use Rattle.cache.specs.Slots.{Slot, slot_at, slots_up_to, slots, SameNodes}
 use Rattle.cache.specs.Answers.{OneMore, Stores, full, at}
@@ -33,15 +33,10 @@ use Rattle.nodes.specs.Words.{node_at}
 use Rattle.nodes.specs.Views.{seen, seen_all}
 use Rattle.nodes.specs.Answers.{thresh_kind, max_figure, NodeHolds, Holds, Grows}
 use Rattle.nodes.proofs.Stored.{node-same, row-same-in}
-use Rattle.table.specs.declared.Table.{Table}
 use Rattle.table.specs.Rows.{rows, TableHolds}
 use Rattle.table.specs.Inserted.{seen_table}
 use Rattle.closure.specs.declared.Closed.{Closed}
-use Rattle.closure.specs.declared.End.{End}
-use Rattle.closure.specs.declared.End.TheVariants as End
 use Rattle.closure.specs.Closed.{answer}
-use Rattle.search_state.specs.declared.Out.{Out}
-use Rattle.search_state.specs.declared.Out.TheVariants as Out
 use Rattle.search_state.specs.State.{stored_as, stored_all, state_in, slot_table, Classed, SlotHolds, Ready, Onward}
 use Rattle.search_state.specs.Recalled.{table_answer, Remembered}
 use Rattle.search_state.proofs.Growing.{onward-refl, entries-kept, slot-holds, stored-kept}
@@ -147,10 +142,10 @@ stored-count pol m = length-map (slots m) (stored_as pol m) ∙ slots-count m
 
 module _ {pol m : List ℕ} (ready : Ready pol m) (q : Policy) (p : Probs) (c : Closed) where
   -- nothing is remembered where work on the table was refused
-  pub passed_on : {n : ℕ} → c.end ≡ End.Refused n → Remembered pol q p c (Out.Refused n) m m
+  pub passed_on : {n : Refusal} → c.end ≡ Err n → Remembered pol q p c (Err n) m m
   passed_on {n} e =
       record {
-        says = then-refused (λ t. kept q p t) (ap (λ (e : End). answer e (seen_table pol m c.table) (state_in pol m)) e);
+        says = then-refused (λ t. kept q p t) (ap (λ (e : Result (Unit {0}) Refusal). answer e (seen_table pol m c.table) (state_in pol m)) e);
         ready = ready;
         onward = onward-refl m;
         slot = tt;
@@ -158,14 +153,14 @@ module _ {pol m : List ℕ} (ready : Ready pol m) (q : Policy) (p : Probs) (c : 
         one = tt;
       }
 
-  is-done : c.end ≡ End.Done → table_answer pol m c ≡ done (seen_table pol m c.table) (state_in pol m)
-  is-done e = ap (λ (e : End). answer e (seen_table pol m c.table) (state_in pol m)) e
+  is-done : c.end ≡ (Ok tt) → table_answer pol m c ≡ done (seen_table pol m c.table) (state_in pol m)
+  is-done e = ap (λ (e : Result (Unit {0}) Refusal). answer e (seen_table pol m c.table) (state_in pol m)) e
 
-  then-kept : c.end ≡ End.Done → then (table_answer pol m c) (λ t. kept q p t) ≡ kept q p (seen_table pol m c.table) (state_in pol m)
+  then-kept : c.end ≡ (Ok tt) → then (table_answer pol m c) (λ t. kept q p t) ≡ kept q p (seen_table pol m c.table) (state_in pol m)
   then-kept e = then-done (λ t. kept q p t) (is-done e)
 
   -- an empty table is refused
-  pub empty-refused : c.end ≡ End.Done → c.table.len ≡ 0 → Remembered pol q p c (Out.Refused LimitsExceeded) m m
+  pub empty-refused : c.end ≡ (Ok tt) → c.table.len ≡ 0 → Remembered pol q p c (Err Refusal.LimitsExceeded) m m
   empty-refused e z =
       record {
         says =
@@ -189,7 +184,7 @@ module _ {pol m : List ℕ} (ready : Ready pol m) (q : Policy) (p : Probs) (c : 
         ∙ e)
 
     -- no table more than 2,048
-    pub full-refused : c.end ≡ End.Done → table_count m ≡ max_tables → Remembered pol q p c (Out.Refused CacheFull) m m
+    pub full-refused : c.end ≡ (Ok tt) → table_count m ≡ max_tables → Remembered pol q p c (Err Refusal.CacheFull) m m
     full-refused e n =
         record {
           says =
@@ -204,10 +199,10 @@ module _ {pol m : List ℕ} (ready : Ready pol m) (q : Policy) (p : Probs) (c : 
         }
 
 -- the table of c, as it is remembered under a number
-abbrev pub slot_of : (number : ℕ) (sat : Float) (dissat : DissatProb) → Closed → Slot
+abbrev pub slot_of : (number : ℕ) (sat : Float) (dissat : Option Float) → Closed → Slot
 slot_of number sat dissat c = record { number = number; sat = sat; dissat = dissat; entries = rows c.table }
 
-module _ {pol m₀ m : List ℕ} (classed : Classed pol) (ready : Ready pol m₀) (r : ℕ) (named : Named pol r) (sat : Float) (dissat : DissatProb)
+module _ {pol m₀ m : List ℕ} (classed : Classed pol) (ready : Ready pol m₀) (r : ℕ) (named : Named pol r) (sat : Float) (dissat : Option Float)
     (c : Closed) (table : TableHolds m₀ c.table) (one : OneMore m₀ m (slot_of (class_at pol r) sat dissat c)) where
   new-onward : Onward m₀ m
   new-onward =
@@ -269,8 +264,8 @@ module _ {pol m₀ m : List ℕ} (classed : Classed pol) (ready : Ready pol m₀
   answer-same e f g = rw (e, f, g)
 
   -- one table more
-  pub one-remembered : length c.table.entries ≡ 128 → (c.table.len ≡ 0 → ⊥) → c.end ≡ End.Done → table_count m₀ < max_tables
-      → {s : ℕ} → s ≡ table_count m₀ → Remembered pol (policy_at pol r) (probs sat dissat) c (Out.Slot s) m₀ m
+  pub one-remembered : length c.table.entries ≡ 128 → (c.table.len ≡ 0 → ⊥) → c.end ≡ (Ok tt) → table_count m₀ < max_tables
+      → {s : ℕ} → s ≡ table_count m₀ → Remembered pol (policy_at pol r) (probs sat dissat) c (Ok s) m₀ m
   one-remembered long some e few {s} i =
       record {
         says =
@@ -293,20 +288,16 @@ module _ {pol m₀ m : List ℕ} (classed : Classed pol) (ready : Ready pol m₀
 
 -- ---- what storing answers
 
-abbrev pub out_of : remembered.Stored → Out
-out_of Full = Out.Refused CacheFull
-out_of (At s) = Out.Slot s
-
-module _ {pol m₀ m : List ℕ} (classed : Classed pol) (ready : Ready pol m₀) (r : ℕ) (named : Named pol r) (sat : Float) (dissat : DissatProb)
+module _ {pol m₀ m : List ℕ} (classed : Classed pol) (ready : Ready pol m₀) (r : ℕ) (named : Named pol r) (sat : Float) (dissat : Option Float)
     (c : Closed) (table : TableHolds m₀ c.table) (long : length c.table.entries ≡ 128) (some : c.table.len ≡ 0 → ⊥)
-    (end : c.end ≡ End.Done) where
-  stores : {a : remembered.Stored} → Stores m₀ m (slot_of (class_at pol r) sat dissat c) a
-      → Remembered pol (policy_at pol r) (probs sat dissat) c (out_of a) m₀ m
+    (end : c.end ≡ Ok tt) where
+  stores : {a : Option ℕ} → Stores m₀ m (slot_of (class_at pol r) sat dissat c) a
+      → Remembered pol (policy_at pol r) (probs sat dissat) c (ok_or a Refusal.CacheFull) m₀ m
   stores (full n e) =
-      subst (λ (m : List ℕ). Remembered pol (policy_at pol r) (probs sat dissat) c (Out.Refused CacheFull) m₀ m) (sym e)
+      subst (λ (m : List ℕ). Remembered pol (policy_at pol r) (probs sat dissat) c (Err Refusal.CacheFull) m₀ m) (sym e)
       (full-refused ready (policy_at pol r) (probs sat dissat) c table long some end n)
   stores (at i few one) = one-remembered classed ready r named sat dissat c table one long some end few i
 
-  pub stores_as : {number : ℕ} {a b : remembered.Stored} → number ≡ class_at pol r → a ≡ b → Stores m₀ m (slot_of number sat dissat c) a
-      → Remembered pol (policy_at pol r) (probs sat dissat) c (out_of b) m₀ m
-  stores_as e i h = stores (rw (e, i) at h)
+  pub stores_as : {number : ℕ} {a : Option ℕ} {o : Result ℕ Refusal} → number ≡ class_at pol r → o ≡ ok_or a Refusal.CacheFull
+      → Stores m₀ m (slot_of number sat dissat c) a → Remembered pol (policy_at pol r) (probs sat dissat) c o m₀ m
+  stores_as e i h = rw i (stores (rw e at h))

@@ -1,11 +1,9 @@
 -- Work memory as the state that the definition of compile speaks of (definition, specs/Refusals.antt): the nodes accepted, and the tables
 -- remembered, each of a policy at two probabilities. Assumes nothing.
-use Rattle.std.specs.Prelude.{List, map, ◌≡◌, ℕ, ◌+◌, ◌*◌, ◌<◌, ◌≤◌}
+use Rattle.std.specs.Prelude.{List, map, ◌≡◌, ℕ, ◌+◌, ◌*◌, ◌<◌, ◌≤◌, Float, Option, None, Some}
 use Rattle.policies.specs.Policy.{Policy, weight}
 use Rattle.policies.specs.Array.{policy_at, Good, Named}
 use Rattle.classes.specs.Classes.{class_at, Classes}
-use Rattle.costs.specs.declared.DissatProb.{DissatProb}
-use Rattle.costs.specs.declared.DissatProb.TheVariants as Prob
 use Rattle.writing.specs.WellFormed.{AllBelow}
 use Rattle.definition.specs.Tables.{probs, Table}
 use Rattle.definition.specs.Refusals.{Stored, State}
@@ -59,16 +57,16 @@ pub record Onward (m₀ m : List ℕ) : Type 0 where
 
 -- ---- room for rows: one search remembers at most as many tables as it makes rows, and what it searches in turn weighs less
 
-abbrev pub flag_of : DissatProb → ℕ
-flag_of (Prob.Some d) = 1
-flag_of Prob.None = 0
+abbrev pub flag_of : Option Float → ℕ
+flag_of (Some d) = 1
+flag_of None = 0
 
 -- what falls from a search to those that it asks for
-abbrev pub load : Policy → DissatProb → ℕ
+abbrev pub load : Policy → Option Float → ℕ
 load q dissat = 2 * weight q + flag_of dissat
 
 -- a search of this policy, and of all that it asks for, has rows enough; `extra` is 1 once it made its own
-abbrev pub Room : (extra : ℕ) → Policy → DissatProb → List ℕ → Type 0
+abbrev pub Room : (extra : ℕ) → Policy → Option Float → List ℕ → Type 0
 Room extra q dissat m = row_count m + load q dissat ≤ table_count m + 385 + extra
 
 -- no more rows than tables were added, but for some

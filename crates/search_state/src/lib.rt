@@ -4,9 +4,8 @@
 // `proofs/`.
 #![tactic(auto)]
 
-ghost use Rattle.std.specs.Prelude.{◌≡◌, ◌<◌};
+ghost use Rattle.std.specs.Prelude.{◌≡◌, ◌<◌, None};
 ghost use Rattle.policies.specs.Array.{policy_at, Named};
-ghost use Rattle.costs.specs.declared.DissatProb.TheVariants.{None};
 ghost use Rattle.definition.specs.Tables.{probs};
 ghost use Rattle.definition.specs.Refusals.{lookup};
 ghost use Rattle.cache.specs.Slots.{slot_at, Kept};
@@ -15,26 +14,13 @@ ghost use Rattle.table.specs.Rows.{Rows, TableHolds};
 ghost use Rattle.search_state.specs.State.{Classed, Ready, stored_all};
 ghost use Rattle.search_state.specs.Recalled.{Recalled, is_found, settles_with, Remembered};
 
-use cache::{Found, Stored};
-use candidates::Made;
-use closure::{Closed, End};
-use costs::DissatProb;
+use candidates::{Candidate, NotMade};
+use closure::Closed;
+use refusals::Refusal;
 use table::Table;
 
-// Document 01's refusals.
-const CACHE_FULL: u8 = 8;
-
-const LIMITS_EXCEEDED: u8 = 11;
-
-// What a search answers: the slot of its table, or a refusal of document 01.
-#[derive(Clone, Copy)]
-pub enum Out {
-    Slot(u16),
-    Refused(u8),
-}
-
 // The table that is remembered of the policy that number r stands for.
-pub fn recall(pol: &[u64], work: &[u64], r: usize, sat: f64, dissat: DissatProb) -> Found
+pub fn recall(pol: &[u64], work: &[u64], r: usize, sat: f64, dissat: Option<f64>) -> Option<u16>
     requires { Classed pol.now × (Named pol.now r × Ready pol.now work.now) }
     ensures { Recalled pol.now work.now (policy_at pol.now r) (probs sat dissat) result }
 {
@@ -43,29 +29,26 @@ pub fn recall(pol: &[u64], work: &[u64], r: usize, sat: f64, dissat: DissatProb)
 }
 
 // Whether a table is remembered of the policy that number r stands for.
-fn remembers(pol: &[u64], work: &[u64], r: usize, sat: f64, dissat: DissatProb) -> bool
+fn remembers(pol: &[u64], work: &[u64], r: usize, sat: f64, dissat: Option<f64>) -> bool
     requires { Classed pol.now × (Named pol.now r × Ready pol.now work.now) }
     ensures { result ≡ is_found (lookup (policy_at pol.now r) (probs sat dissat) (stored_all pol.now work.now)) }
 {
-    match recall(pol, work, r, sat, dissat) {
-        Found::At(_) => true,
-        Found::Missing => false,
-    }
+    recall(pol, work, r, sat, dissat).is_some()
 }
 
 // Whether the table that x was wrapped for is settled: x was made, and the policy's table without dissatisfaction, which was asked for, is remembered.
-pub fn settles(pol: &[u64], work: &[u64], r: usize, sat: f64, dissat: DissatProb, x: Made) -> bool
+pub fn settles(
+    pol: &[u64],
+    work: &[u64],
+    r: usize,
+    sat: f64,
+    dissat: Option<f64>,
+    x: Result<Candidate, NotMade>,
+) -> bool
     requires { Classed pol.now × (Named pol.now r × Ready pol.now work.now) }
     ensures { result ≡ settles_with x dissat (lookup (policy_at pol.now r) (probs sat None) (stored_all pol.now work.now)) }
 {
-    match x {
-        Made::Candidate(_) => match dissat {
-            DissatProb::Some(_) => remembers(pol, work, r, sat, DissatProb::None),
-            DissatProb::None => false,
-        },
-        Made::PassedOver => false,
-        Made::Missing => false,
-    }
+    x.is_ok() && dissat.is_some() && remembers(pol, work, r, sat, None)
 }
 
 // Remembers a table of the policy that number r stands for; an empty one is refused.
@@ -74,30 +57,21 @@ pub fn remember(
     work: &mut [u64],
     r: usize,
     sat: f64,
-    dissat: DissatProb,
+    dissat: Option<f64>,
     c: Closed,
-) -> Out
+) -> Result<u16, Refusal>
     requires { Classed pol.now × (Named pol.now r × (Ready pol.now work.old × TableHolds work.old c.table)) }
     ensures { Remembered pol.now (policy_at pol.now r) (probs sat dissat) c result work.old work.new }
 {
+    c.end?;
     let table = c.table;
-    let end = c.end;
-    match end {
-        End::Refused(n) => {
-            return Out::Refused(n);
-        }
-        End::Done => {}
-    }
-    let len = table.len;
-    let entries = table.entries;
-    if len == 0 {
-        return Out::Refused(LIMITS_EXCEEDED);
+    if table.len == 0 {
+        return Err(Refusal::LimitsExceeded);
     }
     let class = classes::class_of(pol, r);
-    match cache::store(work, class as u16, sat, dissat, entries, len) {
-        Stored::Full => Out::Refused(CACHE_FULL),
-        Stored::At(s) => Out::Slot(s),
-    }
+    cache::store(work, class as u16, sat, dissat, table.entries, table.len).ok_or(
+        Refusal::CacheFull,
+    )
 }
 
 // The table of a slot.
@@ -107,10 +81,8 @@ pub fn table_of(work: &[u64], s: u16) -> Table
 {
     let len = cache::length_of(work, s);
     let mut entries = [0u16; 128];
-    let mut j = 0;
-    while j < len {
+    for j in 0..len {
         entries[j] = cache::entry(work, s, j);
-        j += 1;
     }
     Table { entries, len }
 }

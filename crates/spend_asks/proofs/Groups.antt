@@ -1,4 +1,5 @@
 -- The operands of CHECKMULTISIG.
+use Rattle.std.specs.Prelude.{Option, None, Some}
 use Prim.Native.Nat.{ℕ, zero, suc, ◌+◌, ◌-◌, ◌≤◌, ◌<◌}
 use native.Mathlib.Omega.{arith}
 use mathlib.Core.Bool.{Bool, true, false, not, ◌&&◌, cond, false≢true}
@@ -18,14 +19,12 @@ use Rattle.spend_machine.specs.Entries.{Outcome}
 use Rattle.spend_machine.specs.Recorded.{Run, stands, stuck, within, is_yes, signatures, asking, recorded_step}
 use Rattle.spend_elements.specs.declared.Number.{Number}
 use Rattle.spend_elements.specs.Elements.{bytes_in}
-use Rattle.spend_elements.specs.Signed.{int_of, value_in, ReadAs}
+use Rattle.spend_elements.specs.Signed.{int_of, value_in, IsRead}
 use Rattle.spend_stack.specs.declared.Machine.{Machine}
 use Rattle.spend_stack.specs.declared.Status.TheVariants as Status
 use Rattle.spend_stack.specs.Machines.{element_at, stack_of, is_going, with_status, left_of, run_of, Fits, Does}
 use Rattle.spend_stack.proofs.Stacks.{none-on, one_on}
 use Rattle.spend_stack.proofs.Laws.{goes}
-use Rattle.spend_asks.specs.declared.Group.{Group}
-use Rattle.spend_asks.specs.declared.Group.TheVariants as Group
 use Rattle.spend_asks.specs.Answers.{told, asked, SaysOver, behind, below, Grouped, dummy_on, signed, ChecksSignatures}
 use Rattle.spend_asks.proofs.Telling.{told-as}
 
@@ -43,22 +42,22 @@ module _ (log main : List ℕ) where
   too_many (suc count) (suc n) k h = too_many count n k (omega arith)
 
   -- a count that is no number, below zero, too large, and one that is there
-  pub group-none : (n : ℕ) → n < 1 → Grouped log main n Group.Missing
+  pub group-none : (n : ℕ) → n < 1 → Grouped log main n None
   group-none n h = record { says = λ k. rw (none-on log main n h); less = tt }
 
-  module _ (n : ℕ) (x : Number) (one : 1 ≤ n) (r : ReadAs (bytes_in log (element_at main (n - 1))) x) where
-    pub group-long : x.short ≡ false → Grouped log main n Group.Missing
-    unfolding ok
-    group-long e = record { says = λ k. rw (one_on log main n one, sym r.short ∙ e); less = tt }
+  pub group-long : (n : ℕ) → 1 ≤ n → leb (length (bytes_in log (element_at main (n - 1)))) 4 ≡ false → Grouped log main n None
+  unfolding ok
+  group-long n one e = record { says = λ k. rw (one_on log main n one, e); less = tt }
 
-    number-as : x.short ≡ true → (k : Stack → Result)
+  module _ (n : ℕ) (x : Number) (one : 1 ≤ n) (r : IsRead (bytes_in log (element_at main (n - 1))) x) where
+    number-as : (k : Stack → Result)
         → pop_group (stack_of log main n) (λ xs m. k m) ≡ pop_count (value_in x) λ count. pop_many count (stack_of log main (n - 1)) (λ xs m. k m)
     unfolding ok
-    number-as e k = rw (one_on log main n one, sym r.short ∙ e, ← r.is e)
+    number-as k = rw (one_on log main n one, r.short, ← r.is)
 
-    pub group-negative : x.short ≡ true → (x.negative && nonzero (value_in x)) ≡ true → Grouped log main n Group.Missing
+    pub group-negative : (x.negative && nonzero (value_in x)) ≡ true → Grouped log main n None
     unfolding nonzero
-    group-negative e d = record { says = λ k. number-as e k ∙ by x.negative x.size d k; less = tt }
+    group-negative d = record { says = λ k. number-as k ∙ by x.negative x.size d k; less = tt }
       where
         by : (s : Bool) (size : ℕ) → (s && nonzero (int_of s size)) ≡ true → (k : Stack → Result)
             → (pop_count (int_of s size) λ count. pop_many count (stack_of log main (n - 1)) (λ xs m. k m)) ≡ abort
@@ -72,22 +71,22 @@ module _ (log main : List ℕ) where
     not_negative true (suc size) d = absurd (false≢true (sym d))
     not_negative false size d = refl
 
-    pub group-large : x.short ≡ true → (x.negative && nonzero (value_in x)) ≡ false → n - 1 < x.size → Grouped log main n Group.Missing
-    group-large e d h =
+    pub group-large : (x.negative && nonzero (value_in x)) ≡ false → n - 1 < x.size → Grouped log main n None
+    group-large d h =
         record {
           says = λ k.
-              number-as e k
+              number-as k
               ∙ ap (λ (i : ℤ). pop_count i λ count. pop_many count (stack_of log main (n - 1)) (λ xs m. k m)) (not_negative x.negative x.size d)
               ∙ too_many x.size (n - 1) k h;
           less = tt;
         }
 
-    pub group-there : x.short ≡ true → (x.negative && nonzero (value_in x)) ≡ false → x.size ≤ n - 1
-        → Grouped log main n (Group.Found (n - 1 - x.size))
-    group-there e d h =
+    pub group-there : (x.negative && nonzero (value_in x)) ≡ false → x.size ≤ n - 1
+        → Grouped log main n (Some (n - 1 - x.size))
+    group-there d h =
         record {
           says = λ k.
-              number-as e k
+              number-as k
               ∙ ap (λ (i : ℤ). pop_count i λ count. pop_many count (stack_of log main (n - 1)) (λ xs m. k m)) (not_negative x.negative x.size d)
               ∙ many x.size (n - 1) k h;
           less = omega arith;
@@ -128,7 +127,7 @@ module _ (log main : List ℕ) where
 
 module _ {log before : List ℕ} {m r : Machine} {n : ℕ} (f : Fits log before m) where
   -- no group of signatures, or no dummy below it
-  pub checks-abort : {s : Group} → Grouped log before n s → ((a : Stack) (b : Bool) → behind log before s (λ m. Behind log before m a b) ≡ abort)
+  pub checks-abort : {s : Option ℕ} → Grouped log before n s → ((a : Stack) (b : Bool) → behind log before s (λ m. Behind log before m a b) ≡ abort)
       → r ≡ with_status m Status.Aborted → ChecksSignatures log before before m n r
   unfolding run_of
   checks-abort g h er =
@@ -140,7 +139,7 @@ module _ {log before : List ℕ} {m r : Machine} {n : ℕ} (f : Fits log before 
         same = refl;
       }
 
-  pub checks-over : {after : List ℕ} {d : ℕ} → Grouped log before n (Group.Found d) → dummy_on (stack_of log before d) ≡ true → SaysOver log before after m (d - 1) r
+  pub checks-over : {after : List ℕ} {d : ℕ} → Grouped log before n (Some d) → dummy_on (stack_of log before d) ≡ true → SaysOver log before after m (d - 1) r
       → ChecksSignatures log before after m n r
   checks-over {after} {d} g e s =
       record {
@@ -169,7 +168,7 @@ multi-asks c t s a rs = by (check_multi_sig (λ ks ss. true) s a) rs
     by (done m' a') (q ∷ rs) = refl
 
 module _ {log before : List ℕ} {m r : Machine} (on : is_going m ≡ true) (f : Fits log before m) where
-  pub multi-abort : Grouped log before m.main Group.Missing → r ≡ with_status m Status.Aborted → Does CHECKMULTISIG log before before m r
+  pub multi-abort : Grouped log before m.main None → r ≡ with_status m Status.Aborted → Does CHECKMULTISIG log before before m r
   unfolding run_of
   multi-abort g er =
       record {
@@ -183,7 +182,7 @@ module _ {log before : List ℕ} {m r : Machine} (on : is_going m ≡ true) (f :
         same = refl;
       }
 
-  pub multi-checks : {after : List ℕ} {n : ℕ} → Grouped log before m.main (Group.Found n) → ChecksSignatures log before after m n r
+  pub multi-checks : {after : List ℕ} {n : ℕ} → Grouped log before m.main (Some n) → ChecksSignatures log before after m n r
       → Does CHECKMULTISIG log before after m r
   multi-checks {after} {n} g k =
       record {

@@ -3,7 +3,7 @@ use Prim.Native.Nat.{ℕ, zero, suc, ◌+◌, ◌-◌, ◌≤◌, ◌<◌}
 use native.Mathlib.Omega.{arith}
 use mathlib.Core.Bool.{Bool, true, false, cond, false≢true}
 use mathlib.Core.List.{List, [], ◌∷◌}
-use mathlib.Core.Option.{Option, none, some}
+use Rattle.std.specs.Prelude.{Option, None, Some}
 use mathlib.Core.Path.{◌≡◌, refl, ◌∙◌, sym, ap}
 use borrow.Author.Tests.{eq-eqb, ne_eqb}
 use lib.Dec.{eqb}
@@ -84,7 +84,7 @@ module _ (log : List ℕ) where
     pub some_left : 0 < m.left
     pub are : left_of log m ≡ r ∷ left_of log (after_one log m)
 
-  first-from : (at n : ℕ) (r : Outcome) → first_of (outcomes_from log at n) ≡ some r
+  first-from : (at n : ℕ) (r : Outcome) → first_of (outcomes_from log at n) ≡ Some r
       → (0 < n) × (outcomes_from log at n ≡ r ∷ outcomes_from log (outcome_at log at).next (n - 1))
   unfolding outcomes_from
   first-from at zero r e = absurd (let z : ◌≡◌ {A = ℕ} 0 1 = cc in omega arith)
@@ -93,16 +93,16 @@ module _ (log : List ℕ) where
       let is : outcome_by log (outcome_at log at) ≡ r = cc in
       (omega arith, rw (d, is))
 
-  pub first-is : (m : Machine) (r : Outcome) → first_of (left_of log m) ≡ some r → First m r
+  pub first-is : (m : Machine) (r : Outcome) → first_of (left_of log m) ≡ Some r → First m r
   first-is m r e = let p = first-from m.at m.left r e in record { some_left = p.0; are = p.1 }
 
-said-no : (rs : List Outcome) → said_of rs ≡ Said.No → first_of rs ≡ some no
+said-no : (rs : List Outcome) → said_of rs ≡ Said.No → first_of rs ≡ Some no
 said-no [] e = absurd (let z : ◌≡◌ {A = ℕ} 0 1 = cc in omega arith)
 said-no (no ∷ rs) e = refl
 said-no (yes ∷ rs) e = absurd (let z : ◌≡◌ {A = ℕ} 0 1 = cc in omega arith)
 said-no (digest x ∷ rs) e = absurd (let z : ◌≡◌ {A = ℕ} 0 1 = cc in omega arith)
 
-said-yes : (rs : List Outcome) → said_of rs ≡ Said.Yes → first_of rs ≡ some yes
+said-yes : (rs : List Outcome) → said_of rs ≡ Said.Yes → first_of rs ≡ Some yes
 said-yes [] e = absurd (let z : ◌≡◌ {A = ℕ} 0 1 = cc in omega arith)
 said-yes (no ∷ rs) e = absurd (let z : ◌≡◌ {A = ℕ} 0 1 = cc in omega arith)
 said-yes (yes ∷ rs) e = refl
@@ -120,7 +120,7 @@ above_zero (suc n) h = omega arith
 
 -- the next outcome by its byte
 module _ (log : List ℕ) (m : Machine) (some_left : 0 < m.left) where
-  first_next : first_of (left_of log m) ≡ some (outcome_by log (outcome_at log m.at))
+  first_next : first_of (left_of log m) ≡ Some (outcome_by log (outcome_at log m.at))
   first_next = ap first_of (from_next log m.at m.left some_left)
 
   pub digest-next : {o : OutcomeAt} → ((i : ℕ) → get_or log i 0 < 256) → o ≡ outcome_at log m.at → o.sort ≡ 2
@@ -130,9 +130,9 @@ module _ (log : List ℕ) (m : Machine) (some_left : 0 < m.left) where
       let is : (outcome_at log m.at).digest ≡ element_at log (m.at + 1) = rw (eq-eqb (get_or log m.at 0) 2 two) refl in
       let by : outcome_by log (outcome_at log m.at) ≡ digest (take (element_at log (m.at + 1)).len (drop (element_at log (m.at + 1)).start log)) =
       rw (eq-eqb (get_or log m.at 0) 2 two) refl in
-      rw e (ap (λ (p : Part). some (digest (bytes_in log (record { at = p.start; len = p.len })))) is
-      ∙ ap (λ (x : List ℕ). some (digest x)) (range log bytes (m.at + 1))
-      ∙ sym (first_next ∙ ap some by))
+      rw e (ap (λ (p : Part). Some (digest (bytes_in log (record { at = p.start; len = p.len })))) is
+      ∙ ap (λ (x : List ℕ). Some (digest x)) (range log bytes (m.at + 1))
+      ∙ sym (first_next ∙ ap Some by))
 
   pub yes-next : {o : OutcomeAt} → o ≡ outcome_at log m.at → o.sort ≡ 1 → answered log Answer.Yes ≡ first_of (left_of log m)
   yes-next {o} e s =

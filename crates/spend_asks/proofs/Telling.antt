@@ -3,7 +3,7 @@ use Prim.Native.Nat.{ℕ, zero, suc, ◌+◌, ◌-◌, ◌≤◌, ◌<◌}
 use native.Mathlib.Omega.{arith}
 use mathlib.Core.Bool.{Bool, true, false, not, ◌&&◌, cond, false≢true}
 use mathlib.Core.List.{List, [], ◌∷◌}
-use mathlib.Core.Option.{Option, none, some}
+use Rattle.std.specs.Prelude.{Option, None, Some}
 use mathlib.Core.Path.{◌≡◌, refl, ◌∙◌, sym, ap}
 use borrow.Author.Tests.{ltb-true, ltb-false, eqb-true, eqb-false, ne_eqb}
 use lib.Dec.{leb, ltb, eqb}
@@ -30,8 +30,6 @@ use Rattle.spend_stack.proofs.Laws.{goes, state_of}
 use Rattle.spend_stack.proofs.Steps.{AbortsOn}
 use Rattle.spend_asks.specs.declared.Said.{Said}
 use Rattle.spend_asks.specs.declared.Said.TheVariants as Said
-use Rattle.spend_asks.specs.declared.Group.{Group}
-use Rattle.spend_asks.specs.declared.Group.TheVariants as Group
 use Rattle.spend_asks.specs.Answers.{first_of, said_of, told, asked, SaysOver, behind, below, Grouped, dummy_on, signed, ChecksSignatures}
 use Rattle.spend_asks.proofs.Next.{First, fits_next}
 
@@ -252,13 +250,13 @@ module _ (log main : List ℕ) (m : Machine) where
   unfolding recorded_step step
   hash-on kind h c t a x rs = rw (one_on log main m.main h)
 
-  pub hash-missing : (kind : HashKind) → 1 ≤ m.main → (c : Context) (t : Tables) (a : Stack) (rs : List Outcome) → first_of rs ≡ none
+  pub hash-missing : (kind : HashKind) → 1 ≤ m.main → (c : Context) (t : Tables) (a : Stack) (rs : List Outcome) → first_of rs ≡ None
       → recorded_step c t (HASH kind) (stands (state (stack_of log main m.main) a []) rs) ≡ stuck
   unfolding recorded_step step
   hash-missing kind h c t a [] e = rw (one_on log main m.main h)
   hash-missing kind h c t a (q ∷ rs) e = absurd (let z : ◌≡◌ {A = ℕ} 0 1 = cc in omega arith)
 
-  pub hash-said : (kind : HashKind) (b : Bool) → 1 ≤ m.main → (c : Context) (t : Tables) (a : Stack) (rs : List Outcome) → first_of rs ≡ some (outcome_of b)
+  pub hash-said : (kind : HashKind) (b : Bool) → 1 ≤ m.main → (c : Context) (t : Tables) (a : Stack) (rs : List Outcome) → first_of rs ≡ Some (outcome_of b)
       → recorded_step c t (HASH kind) (stands (state (stack_of log main m.main) a []) rs) ≡ stuck
   unfolding recorded_step step
   hash-said kind b h c t a [] e = absurd (let z : ◌≡◌ {A = ℕ} 0 1 = cc in omega arith)

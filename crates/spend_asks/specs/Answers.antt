@@ -1,6 +1,5 @@
 -- What the functions between the words that ask answer: the next outcome, a test that it says, and the operands of CHECKMULTISIG.
-use Rattle.std.specs.Prelude.{ℕ, ◌<◌, Bool, true, false, not, cond, List, [], ◌∷◌, ◌≡◌, eqb, length}
-use Rattle.std.proofs.Math.Option.{Option, none, some}
+use Rattle.std.specs.Prelude.{ℕ, ◌<◌, Bool, true, false, not, cond, List, [], ◌∷◌, ◌≡◌, eqb, length, Option, None, Some}
 use Rattle.script_machine.specs.Numbers.{Bytes, Stack, element, same}
 use Rattle.script_machine.specs.Machine.{Result, abort, done, ok, pop, pop_group, aborted, under}
 use Rattle.spend_machine.specs.Entries.{Outcome, no, yes, digest}
@@ -12,25 +11,23 @@ use Rattle.spend_asks.specs.declared.Answer.{Answer}
 use Rattle.spend_asks.specs.declared.Answer.TheVariants as Answer
 use Rattle.spend_asks.specs.declared.Said.{Said}
 use Rattle.spend_asks.specs.declared.Said.TheVariants as Said
-use Rattle.spend_asks.specs.declared.Group.{Group}
-use Rattle.spend_asks.specs.declared.Group.TheVariants as Group
 
 -- the first of some outcomes, if there is one, and as yes or no
 abbrev pub first_of : List Outcome → Option Outcome
-first_of [] = none
-first_of (r ∷ rs) = some r
+first_of [] = None
+first_of (r ∷ rs) = Some r
 
 abbrev pub answered : Bytes → Answer → Option Outcome
-answered log Answer.Missing = none
-answered log Answer.No = some no
-answered log Answer.Yes = some yes
-answered log (Answer.Digest e) = some (digest (bytes_in log e))
+answered log Answer.Missing = None
+answered log Answer.No = Some no
+answered log Answer.Yes = Some yes
+answered log (Answer.Digest e) = Some (digest (bytes_in log e))
 
 abbrev pub said_by : Option Outcome → Said
-said_by none = Said.Neither
-said_by (some no) = Said.No
-said_by (some yes) = Said.Yes
-said_by (some (digest x)) = Said.Neither
+said_by None = Said.Neither
+said_by (Some no) = Said.No
+said_by (Some yes) = Said.Yes
+said_by (Some (digest x)) = Said.Neither
 
 abbrev pub said_of : List Outcome → Said
 said_of rs = said_by (first_of rs)
@@ -52,15 +49,15 @@ pub record SaysOver (log before after : List ℕ) (m : Machine) (n : ℕ) (r : M
   pub same : length after ≡ length before
 
 -- a count on top of a stack and so many elements below it: what comes behind is done to the others
-abbrev pub behind : (log memory : List ℕ) → Group → (Stack → Result) → Result
-behind log memory Group.Missing k = abort
-behind log memory (Group.Found n) k = k (stack_of log memory n)
+abbrev pub behind : (log memory : List ℕ) → Option ℕ → (Stack → Result) → Result
+behind log memory None k = abort
+behind log memory (Some n) k = k (stack_of log memory n)
 
-abbrev pub below : Group → ℕ → Type 0
-below Group.Missing n = Unit
-below (Group.Found p) n = p < n
+abbrev pub below : Option ℕ → ℕ → Type 0
+below None n = Unit
+below (Some p) n = p < n
 
-pub record Grouped (log memory : List ℕ) (n : ℕ) (r : Group) : Type 0 where
+pub record Grouped (log memory : List ℕ) (n : ℕ) (r : Option ℕ) : Type 0 where
   pub says : (k : Stack → Result) → pop_group (stack_of log memory n) (λ xs m. k m) ≡ behind log memory r k
   pub less : below r n
 

@@ -18,13 +18,6 @@ ghost use Rattle.spend_asks.specs.Answers.{answered, first_of, said_of, SaysOver
 use spend_elements::{Element, Number};
 use spend_stack::{Machine, Status};
 
-// A count and so many elements below it: missing, or where the elements below all of them end.
-#[derive(Clone, Copy)]
-pub enum Group {
-    Missing,
-    Found(usize),
-}
-
 // The next outcome, where yes or no is asked for.
 #[derive(Clone, Copy)]
 pub enum Said {
@@ -71,13 +64,10 @@ fn taken(log: &[u8], m: Machine) -> Machine
     ensures { result ≡ after_one log.now m }
 {
     let o = spend_log::outcome_at(log, m.at);
-    let status = m.status;
     Machine {
-        main: m.main,
-        alt: m.alt,
         at: o.next,
         left: m.left - 1,
-        status,
+        ..m
     }
 }
 
@@ -100,20 +90,18 @@ pub fn hash(log: &[u8], main: &mut [u64], m: Machine) -> Machine
     requires { Fits log.now main.old m }
     ensures { (kind : HashKind) → Does (HASH kind) log.now main.old main.new m result }
 {
-    if spend_stack::is_going(m) {
-        let n = m.main;
-        if n < 1 {
-            return spend_stack::with_status(m, Status::Aborted);
+    match spend_stack::ready(m, 1) {
+        Err(end) => end,
+        Ok(()) => {
+            let a = ask(log, m);
+            match a {
+                Answer::Missing => spend_stack::with_status(m, Status::Stuck),
+                Answer::No => spend_stack::with_status(m, Status::Stuck),
+                Answer::Yes => spend_stack::with_status(m, Status::Stuck),
+                Answer::Digest(e) => spend_stack::over(log, main, taken(log, m), m.main - 1, e),
+            }
         }
-        let a = ask(log, m);
-        return match a {
-            Answer::Missing => spend_stack::with_status(m, Status::Stuck),
-            Answer::No => spend_stack::with_status(m, Status::Stuck),
-            Answer::Yes => spend_stack::with_status(m, Status::Stuck),
-            Answer::Digest(e) => spend_stack::over(log, main, taken(log, m), n - 1, e),
-        };
     }
-    m
 }
 
 // The test that the next outcome says, over the lowest n elements of the main stack.
@@ -134,14 +122,10 @@ pub fn check_sig(log: &[u8], main: &mut [u64], m: Machine) -> Machine
     requires { Fits log.now main.old m }
     ensures { Does CHECKSIG log.now main.old main.new m result }
 {
-    if spend_stack::is_going(m) {
-        let n = m.main;
-        if n < 2 {
-            return spend_stack::with_status(m, Status::Aborted);
-        }
-        return say_over(log, main, m, n - 2);
+    match spend_stack::ready(m, 2) {
+        Err(end) => end,
+        Ok(()) => say_over(log, main, m, m.main - 2),
     }
-    m
 }
 
 // A number, and one more where that is said.
@@ -151,7 +135,6 @@ fn one_more(x: Number, more: bool) -> Element
 {
     if more {
         let one = Number {
-            short: true,
             negative: false,
             size: 1,
         };
@@ -165,24 +148,22 @@ pub fn check_sig_add(log: &[u8], main: &mut [u64], m: Machine) -> Machine
     requires { Fits log.now main.old m }
     ensures { Does CHECKSIGADD log.now main.old main.new m result }
 {
-    if spend_stack::is_going(m) {
-        let n = m.main;
-        if n < 3 {
-            return spend_stack::with_status(m, Status::Aborted);
-        }
-        let x = spend_elements::number_of(log, spend_stack::get(main, n - 2));
-        let short = x.short;
-        if short {
-            let s = say(log, m);
-            return match s {
-                Said::Neither => spend_stack::with_status(m, Status::Stuck),
-                Said::No => spend_stack::over(log, main, taken(log, m), n - 3, one_more(x, false)),
-                Said::Yes => spend_stack::over(log, main, taken(log, m), n - 3, one_more(x, true)),
+    match spend_stack::ready(m, 3) {
+        Err(end) => end,
+        Ok(()) => {
+            let e = spend_stack::get(main, m.main - 2);
+            let Some(x) = spend_elements::number_of(log, e) else {
+                return spend_stack::with_status(m, Status::Aborted);
             };
+            let n = m.main - 3;
+            let s = say(log, m);
+            match s {
+                Said::Neither => spend_stack::with_status(m, Status::Stuck),
+                Said::No => spend_stack::over(log, main, taken(log, m), n, one_more(x, false)),
+                Said::Yes => spend_stack::over(log, main, taken(log, m), n, one_more(x, true)),
+            }
         }
-        return spend_stack::with_status(m, Status::Aborted);
     }
-    m
 }
 
 // CHECKLOCKTIMEVERIFY and CHECKSEQUENCEVERIFY.
@@ -190,48 +171,41 @@ pub fn check_time(log: &[u8], main: &mut [u64], m: Machine) -> Machine
     requires { Fits log.now main.old m }
     ensures { (kind : LockKind) → Does (time_word kind) log.now main.old main.new m result }
 {
-    if spend_stack::is_going(m) {
-        let n = m.main;
-        if n < 1 {
-            return spend_stack::with_status(m, Status::Aborted);
-        }
-        let x = spend_elements::number_of(log, spend_stack::get(main, n - 1));
-        let short = x.short;
-        if short {
+    match spend_stack::ready(m, 1) {
+        Err(end) => end,
+        Ok(()) => {
+            let e = spend_stack::get(main, m.main - 1);
+            let Some(_x) = spend_elements::number_of(log, e) else {
+                return spend_stack::with_status(m, Status::Aborted);
+            };
             let s = say(log, m);
-            return match s {
+            match s {
                 Said::Neither => spend_stack::with_status(m, Status::Stuck),
                 Said::No => spend_stack::with_status(taken(log, m), Status::Aborted),
                 Said::Yes => taken(log, m),
-            };
+            }
         }
-        return spend_stack::with_status(m, Status::Aborted);
     }
-    m
 }
 
 // A count on top of the lowest n elements of a stack, and so many elements below it.
-fn group_below(log: &[u8], main: &[u64], n: usize) -> Group
+fn group_below(log: &[u8], main: &[u64], n: usize) -> Option<usize>
     requires { (n ≤ 4096) × (8192 ≤ length main.now) }
     ensures { Grouped log.now main.now n result }
 {
     if n < 1 {
-        return Group::Missing;
+        return None;
     }
-    let x = spend_elements::number_of(log, spend_stack::get(main, n - 1));
-    let count = x.size;
-    let negative = x.negative;
-    let short = x.short;
-    if short {
-        if spend_stack::both(negative, spend_elements::nonzero(x)) {
-            return Group::Missing;
-        }
-        if n - 1 < count {
-            return Group::Missing;
-        }
-        return Group::Found(n - 1 - count);
+    let x = spend_elements::number_of(log, spend_stack::get(main, n - 1))?;
+    let below_zero = x.negative & spend_elements::nonzero(x);
+    if below_zero {
+        return None;
     }
-    Group::Missing
+    let rest = n - 1;
+    if rest < x.size {
+        return None;
+    }
+    Some(rest - x.size)
 }
 
 // Whether element n - 1 of a stack is the empty dummy of CHECKMULTISIG.
@@ -251,11 +225,10 @@ pub fn check_multi_sig(log: &[u8], main: &mut [u64], m: Machine) -> Machine
     ensures { Does CHECKMULTISIG log.now main.old main.new m result }
 {
     if spend_stack::is_going(m) {
-        let keys = group_below(log, main, m.main);
-        return match keys {
-            Group::Missing => spend_stack::with_status(m, Status::Aborted),
-            Group::Found(n) => check_signatures(log, main, m, n),
+        let Some(n) = group_below(log, main, m.main) else {
+            return spend_stack::with_status(m, Status::Aborted);
         };
+        return check_signatures(log, main, m, n);
     }
     m
 }
@@ -265,14 +238,11 @@ fn check_signatures(log: &[u8], main: &mut [u64], m: Machine, n: usize) -> Machi
     requires { Fits log.now main.old m × (n ≤ m.main) }
     ensures { ChecksSignatures log.now main.old main.new m n result }
 {
-    let sigs = group_below(log, main, n);
-    match sigs {
-        Group::Missing => spend_stack::with_status(m, Status::Aborted),
-        Group::Found(d) => {
-            if is_dummy(log, main, d) {
-                return say_over(log, main, m, d - 1);
-            }
-            spend_stack::with_status(m, Status::Aborted)
-        }
+    let Some(d) = group_below(log, main, n) else {
+        return spend_stack::with_status(m, Status::Aborted);
+    };
+    if is_dummy(log, main, d) {
+        return say_over(log, main, m, d - 1);
     }
+    spend_stack::with_status(m, Status::Aborted)
 }

@@ -15,18 +15,6 @@ use Rattle.script_machine.specs.Numbers.{Bytes, is_true, same}
 use Rattle.script_machine.specs.Machine.{may_branch}
 use Rattle.spend_elements.specs.Elements.{tells, is_one}
 
-or_assoc : (a b c : Bool) → (a || b) || c ≡ a || (b || c)
-or_assoc true b c = refl
-or_assoc false b c = refl
-
-or-false : (a : Bool) → a || false ≡ a
-or-false true = refl
-or-false false = refl
-
-and_assoc : (a b c : Bool) → (a && b) && c ≡ a && (b && c)
-and_assoc true b c = refl
-and_assoc false b c = refl
-
 and-true : (a : Bool) → a && true ≡ a
 and-true true = refl
 and-true false = refl
@@ -54,8 +42,8 @@ unfolding is_true
 tells-cons b [] = tells-last b
 tells-cons b (c ∷ bs) = rw (eqb-suc-zero (length bs)) (tells_more b (is_true (c ∷ bs)))
 
-abbrev pub TrueToCome : Bytes → ℕ → Bool → Type 0
-TrueToCome x j found = found || is_true (drop j x) ≡ is_true x
+abbrev pub TrueToCome : Bytes → ℕ → Type 0
+TrueToCome x j = is_true (drop j x) ≡ is_true x
 
 last-is : (n m : ℕ) (x : Bytes) → length x ≡ n → m < n → eqb (m + 1) n ≡ eqb (length (drop (suc m) x)) 0
 last-is n m x e l = go (eqb (m + 1) n) refl
@@ -64,34 +52,56 @@ last-is n m x e l = go (eqb (m + 1) n) refl
     go true h = sym (eq-eqb (length (drop (suc m) x)) 0 (omega (arith, length-drop (suc m) x, eqb-true (m + 1) n h)))
     go false h = sym (ne_eqb (length (drop (suc m) x)) 0 (λ z. eqb-false (m + 1) n h (omega (arith, length-drop (suc m) x))))
 
-pub true-more : (x : Bytes) (n j b : ℕ) (found told more : Bool) → n ≡ length x → j < n → b ≡ get_or x j 0 → told ≡ tells b (eqb (j + 1) n)
-    → more ≡ found || told → TrueToCome x j found → TrueToCome x (j + 1) more
-true-more x n j b found told more en l eb et em h =
-    let cons : drop j x ≡ get_or x j 0 ∷ drop (suc j) x = drop-cons x j 0 (omega arith) in
-    rw (add-one j, em, et, eb, last-is n j x (sym en) l, or_assoc found)
-    (ap (λ (t : Bool). found || t) (sym (tells-cons (get_or x j 0) (drop (suc j) x))) ∙ (rw cons at h))
+-- byte j and those behind it
+true-next : (x : Bytes) (n j b : ℕ) → n ≡ length x → j < n → b ≡ get_or x j 0
+    → is_true (drop j x) ≡ tells b (eqb (j + 1) n) || is_true (drop (suc j) x)
+true-next x n j b en l eb =
+    rw (drop-cons x j 0 (omega arith)) (tells-cons (get_or x j 0) (drop (suc j) x)
+    ∙ rw (eb, last-is n j x (sym en) l) refl)
 
-pub true-done : (x : Bytes) (n j : ℕ) (found : Bool) → n ≡ length x → n ≤ j → TrueToCome x j found → found ≡ is_true x
+pub true-more : (x : Bytes) (n j b : ℕ) → n ≡ length x → j < n → b ≡ get_or x j 0 → tells b (eqb (j + 1) n) ≡ false
+    → TrueToCome x j → TrueToCome x (j + 1)
+true-more x n j b en l eb et h =
+    rw (add-one j) (sym (true-next x n j b en l eb ∙ ap (λ (t : Bool). t || is_true (drop (suc j) x)) et) ∙ h)
+
+pub true-told : (x : Bytes) (n j b : ℕ) → n ≡ length x → j < n → b ≡ get_or x j 0 → tells b (eqb (j + 1) n) ≡ true
+    → TrueToCome x j → true ≡ is_true x
+true-told x n j b en l eb et h =
+    sym (true-next x n j b en l eb ∙ ap (λ (t : Bool). t || is_true (drop (suc j) x)) et) ∙ h
+
+pub true-done : (x : Bytes) (n j : ℕ) → n ≡ length x → n ≤ j → TrueToCome x j → false ≡ is_true x
 unfolding is_true
-true-done x n j found e l h = sym (or-false found) ∙ (rw (drop_of_length-le x {i = j} (omega arith)) at h)
+true-done x n j e l h = rw (drop_of_length-le x {i = j} (omega arith)) at h
 
 -- ---- same
 
-abbrev pub SameToCome : Bytes → Bytes → ℕ → Bool → Type 0
-SameToCome x y j all = all && same (drop j x) (drop j y) ≡ same x y
+abbrev pub SameToCome : Bytes → Bytes → ℕ → Type 0
+SameToCome x y j = same (drop j x) (drop j y) ≡ same x y
 
-pub same_more : (x y : Bytes) (n j a b : ℕ) (all more : Bool) → n ≡ length x → n ≡ length y → j < n → a ≡ get_or x j 0 → b ≡ get_or y j 0
-    → more ≡ all && eqb a b → SameToCome x y j all → SameToCome x y (j + 1) more
+-- bytes j and those behind them
+same-next : (x y : Bytes) (n j a b : ℕ) → n ≡ length x → n ≡ length y → j < n → a ≡ get_or x j 0 → b ≡ get_or y j 0
+    → same (drop j x) (drop j y) ≡ eqb a b && same (drop (suc j) x) (drop (suc j) y)
 unfolding same
-same_more x y n j a b all more ex ey l ea eb em h =
+same-next x y n j a b ex ey l ea eb =
     let cx : drop j x ≡ get_or x j 0 ∷ drop (suc j) x = drop-cons x j 0 (omega arith) in
     let cy : drop j y ≡ get_or y j 0 ∷ drop (suc j) y = drop-cons y j 0 (omega arith) in
-    rw (add-one j, em, ea, eb, and_assoc all) (rw (cx, cy) at h)
+    rw (cx, cy, ea, eb) refl
 
-pub same-done : (x y : Bytes) (n j : ℕ) (all : Bool) → n ≡ length x → n ≡ length y → n ≤ j → SameToCome x y j all → all ≡ same x y
+pub same_more : (x y : Bytes) (n j a b : ℕ) → n ≡ length x → n ≡ length y → j < n → a ≡ get_or x j 0 → b ≡ get_or y j 0
+    → a ≡ b → SameToCome x y j → SameToCome x y (j + 1)
+same_more x y n j a b ex ey l ea eb e h =
+    rw (add-one j) (sym (same-next x y n j a b ex ey l ea eb
+    ∙ ap (λ (t : Bool). t && same (drop (suc j) x) (drop (suc j) y)) (eq-eqb a b e)) ∙ h)
+
+pub same-other : (x y : Bytes) (n j a b : ℕ) → n ≡ length x → n ≡ length y → j < n → a ≡ get_or x j 0 → b ≡ get_or y j 0
+    → (a ≡ b → ⊥) → SameToCome x y j → false ≡ same x y
+same-other x y n j a b ex ey l ea eb e h =
+    sym (same-next x y n j a b ex ey l ea eb
+    ∙ ap (λ (t : Bool). t && same (drop (suc j) x) (drop (suc j) y)) (ne_eqb a b e)) ∙ h
+
+pub same-done : (x y : Bytes) (n j : ℕ) → n ≡ length x → n ≡ length y → n ≤ j → SameToCome x y j → true ≡ same x y
 unfolding same
-same-done x y n j all ex ey l h =
-    sym (and-true all) ∙ (rw (drop_of_length-le x {i = j} (omega arith), drop_of_length-le y {i = j} (omega arith)) at h)
+same-done x y n j ex ey l h = rw (drop_of_length-le x {i = j} (omega arith), drop_of_length-le y {i = j} (omega arith)) at h
 
 pub same_not : (x y : Bytes) → (length x ≡ length y → ⊥) → same x y ≡ false
 unfolding same

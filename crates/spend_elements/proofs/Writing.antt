@@ -2,11 +2,11 @@
 use Prim.Native.Nat.{ℕ, zero, suc, ◌+◌, ◌*◌, ◌-◌, ◌/◌, ◌%◌, ◌≤◌, ◌<◌}
 use native.Mathlib.Nat.{add-mul-mod_self_right}
 use native.Mathlib.Omega.{arith}
-use mathlib.Core.Bool.{Bool, true, false, not, cond}
+use mathlib.Core.Bool.{Bool, true, false, not, beq}
 use mathlib.Core.List.{List, [], ◌∷◌}
 use mathlib.Core.Path.{◌≡◌, refl, ◌∙◌, sym, ap}
 use borrow.Author.Tests.{lt-ltb, le-ltb, ne_eqb, eq-eqb, ltb-true, ltb-false}
-use lib.Dec.{eqb, ltb}
+use lib.Dec.{eqb, ltb, eqb-suc-zero}
 use lib.IntN.{ℤ, pos, negsuc, neg_ℤ, sub_ℕ, ◌+ℤ◌, ◌-ℤ◌}
 use Rattle.words.specs.Bytes.{bytes_of}
 use Rattle.words.proofs.Packing.{digit, rest}
@@ -171,7 +171,7 @@ equal-zeros true false m n e d = rw (e, d)
 equal-zeros false true m n e d = rw (e, d)
 equal-zeros false false m n e d = rw (e, d)
 
-pub equal-signs : (s t : Bool) (m n : ℕ) → m ≡ n → (m ≡ 0 → ⊥) → equal (int_of s m) (int_of t n) ≡ cond s t (not t)
+pub equal-signs : (s t : Bool) (m n : ℕ) → m ≡ n → (m ≡ 0 → ⊥) → equal (int_of s m) (int_of t n) ≡ beq s t
 unfolding equal
 equal-signs s t zero n e h = absurd (h refl)
 equal-signs true true (suc m) zero e h = absurd (omega arith)
@@ -181,16 +181,11 @@ equal-signs false true (suc m) zero e h = absurd (omega arith)
 equal-signs false true (suc m) (suc n) e h = refl
 equal-signs false false (suc m) n e h = eq-eqb (suc m) n e
 
-pub zero_is : (s : Bool) (n : ℕ) → n ≡ 0 → nonzero (int_of s n) ≡ false
+pub nonzero-is : (s : Bool) (n : ℕ) → nonzero (int_of s n) ≡ not (eqb n 0)
 unfolding nonzero
-zero_is true n e = rw e
-zero_is false n e = rw e
-
-pub zero-not : (s : Bool) (n : ℕ) → (n ≡ 0 → ⊥) → nonzero (int_of s n) ≡ true
-unfolding nonzero
-zero-not true zero h = absurd (h refl)
-zero-not true (suc n) h = refl
-zero-not false n h = rw (ne_eqb n 0 h)
+nonzero-is true zero = refl
+nonzero-is true (suc n) = rw (eqb-suc-zero n)
+nonzero-is false n = refl
 
 pub above_zero : (n : ℕ) → (n ≡ 0 → ⊥) → 0 < n
 above_zero zero h = absurd (h refl)

@@ -1,5 +1,5 @@
 -- Script's numbers by sign and size: document 01, "What a fragment's script does" (number operands have at most 4 bytes).
-use Rattle.std.specs.Prelude.{ℕ, zero, suc, ◌+◌, ◌*◌, ◌<◌, Bool, true, false, cond, List, ◌≡◌, leb, ℤ, pos, neg_ℤ, length, get_or}
+use Rattle.std.specs.Prelude.{ℕ, zero, suc, ◌+◌, ◌*◌, ◌<◌, Bool, true, false, cond, List, ◌≡◌, leb, ℤ, pos, neg_ℤ, length, get_or, Option, None, Some}
 use Rattle.script_machine.specs.Numbers.{Bytes, read}
 use Rattle.spend_elements.specs.declared.Number.{Number}
 
@@ -32,8 +32,12 @@ pub record Valued (x : Bytes) (v : ℕ) : Type 0 where
   pub byte2 : get_or x 2 0 < 256
   pub byte3 : get_or x 3 0 < 256
 
--- a number is what bytes are read as, if they are at most 4
-pub record ReadAs (x : Bytes) (n : Number) : Type 0 where
-  pub short : n.short ≡ leb (length x) 4
+-- bytes are read as a number, if they are at most 4
+pub record IsRead (x : Bytes) (n : Number) : Type 0 where
+  pub short : leb (length x) 4 ≡ true
   pub small : n.size < 2147483648
-  pub is : n.short ≡ true → value_in n ≡ read x
+  pub is : value_in n ≡ read x
+
+abbrev pub ReadAs : Bytes → Option Number → Type 0
+ReadAs x (Some n) = IsRead x n
+ReadAs x None = leb (length x) 4 ≡ false

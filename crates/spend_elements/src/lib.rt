@@ -4,7 +4,7 @@
 // specs/Numbers.antt and specs/Machine.antt (what the words make of bytes). No function asks anything of an element.
 #![tactic(auto)]
 
-ghost use Rattle.std.specs.Prelude.{◌≡◌, List, ◌&&◌, ◌||◌, ℕ, ◌+◌, ◌<◌, ◌≤◌, eqb, length, get_or, take, drop, pos, ◌+ℤ◌, ◌-ℤ◌};
+ghost use Rattle.std.specs.Prelude.{◌≡◌, List, ℕ, ◌+◌, ◌<◌, ◌≤◌, eqb, length, get_or, take, drop, pos, ◌+ℤ◌, ◌-ℤ◌};
 ghost use Rattle.words.specs.Bytes.{bytes_of};
 ghost use Rattle.script_machine.specs.Numbers.{is_true, element, same};
 ghost use Rattle.script_machine.specs.Machine.{may_branch};
@@ -14,10 +14,9 @@ ghost use Rattle.spend_elements.specs.Elements.{held, small_length, range_length
 
 use contexts::Context;
 
-// A number by its sign and its size; `short` says whether its bytes are at most 4.
+// A number by its sign and its size.
 #[derive(Clone, Copy)]
 pub struct Number {
-    pub short: bool,
     pub negative: bool,
     pub size: usize,
 }
@@ -37,24 +36,14 @@ fn small_length(len: usize) -> usize
     requires { held ≤ len }
     ensures { result ≡ small_length len }
 {
-    let n = len - HELD;
-    if n <= 5 {
-        return n;
-    }
-    5
+    (len - HELD).min(5)
 }
 
 // How many bytes a range has within a log of n bytes.
 fn range_length(n: usize, at: usize, len: usize) -> usize
     ensures { result ≡ range_length n at len }
 {
-    if at < n {
-        if len < n - at {
-            return len;
-        }
-        return n - at;
-    }
-    0
+    len.min(n.saturating_sub(at))
 }
 
 // How many bytes an element has.
@@ -88,19 +77,13 @@ fn small_byte(v: usize, n: usize, j: usize) -> u8
     if n <= j {
         return 0;
     }
-    if j < 1 {
-        return (v % 256) as u8;
+    match j {
+        0 => (v % 256) as u8,
+        1 => (v / 256 % 256) as u8,
+        2 => (v / 65536 % 256) as u8,
+        3 => (v / 16777216 % 256) as u8,
+        _ => (v / 4294967296 % 256) as u8,
     }
-    if j < 2 {
-        return (v / 256 % 256) as u8;
-    }
-    if j < 3 {
-        return (v / 65536 % 256) as u8;
-    }
-    if j < 4 {
-        return (v / 16777216 % 256) as u8;
-    }
-    (v / 4294967296 % 256) as u8
 }
 
 // Byte j of an element, 0 if it has none.
@@ -118,27 +101,11 @@ pub fn byte_of(log: &[u8], e: Element, j: usize) -> u8
 fn tells(b: u8, last: bool) -> bool
     ensures { result ≡ tells b last }
 {
-    if b == 0 {
-        return false;
+    match b {
+        0 => false,
+        128 => !last,
+        _ => true,
     }
-    if b == 128 {
-        return !last;
-    }
-    true
-}
-
-// One of two.
-fn either(a: bool, b: bool) -> bool
-    ensures { result ≡ a || b }
-{
-    a || b
-}
-
-// Both of two.
-fn both(a: bool, b: bool) -> bool
-    ensures { result ≡ a && b }
-{
-    a && b
 }
 
 // Whether IF, NOTIF, IFDUP and VERIFY take an element for true.
@@ -146,14 +113,12 @@ pub fn is_true(log: &[u8], e: Element) -> bool
     ensures { result ≡ is_true (bytes_in log.now e) }
 {
     let n = length_of(log, e);
-    let mut found = false;
-    let mut j = 0;
-    while j < n {
-        let told = tells(byte_of(log, e, j), j + 1 == n);
-        found = either(found, told);
-        j += 1;
+    for j in 0..n {
+        if tells(byte_of(log, e, j), j + 1 == n) {
+            return true;
+        }
     }
-    found
+    false
 }
 
 // Whether two elements have the same bytes.
@@ -164,24 +129,21 @@ pub fn same(log: &[u8], a: Element, b: Element) -> bool
     if n != length_of(log, b) {
         return false;
     }
-    let mut all = true;
-    let mut j = 0;
-    while j < n {
-        let equal = byte_of(log, a, j) == byte_of(log, b, j);
-        all = both(all, equal);
-        j += 1;
+    for j in 0..n {
+        let x = byte_of(log, a, j);
+        let y = byte_of(log, b, j);
+        if x != y {
+            return false;
+        }
     }
-    all
+    true
 }
 
 // Whether an element is the byte 1 alone.
 fn is_one(log: &[u8], e: Element) -> bool
     ensures { result ≡ is_one (bytes_in log.now e) }
 {
-    if length_of(log, e) == 1 {
-        return byte_of(log, e, 0) == 1;
-    }
-    false
+    length_of(log, e) == 1 && byte_of(log, e, 0) == 1
 }
 
 // Whether IF and NOTIF take an element.
@@ -190,12 +152,7 @@ pub fn may_branch(context: Context, log: &[u8], e: Element) -> bool
 {
     match context {
         Context::Segwitv0 => true,
-        Context::Tap => {
-            if length_of(log, e) == 0 {
-                return true;
-            }
-            is_one(log, e)
-        }
+        Context::Tap => length_of(log, e) == 0 || is_one(log, e),
     }
 }
 
@@ -228,47 +185,35 @@ fn sign_bit(n: usize) -> usize
     requires { n ≤ 4 }
     ensures { result ≡ sign_bit n }
 {
-    if n < 1 {
-        return 1;
+    match n {
+        0 => 1,
+        1 => 128,
+        2 => 32768,
+        3 => 8388608,
+        _ => 2147483648,
     }
-    if n < 2 {
-        return 128;
-    }
-    if n < 3 {
-        return 32768;
-    }
-    if n < 4 {
-        return 8388608;
-    }
-    2147483648
 }
 
-// The number that an element is.
-pub fn number_of(log: &[u8], e: Element) -> Number
+// The number that an element of at most 4 bytes is.
+pub fn number_of(log: &[u8], e: Element) -> Option<Number>
     ensures { ReadAs (bytes_in log.now e) result }
 {
     let n = length_of(log, e);
     if n > 4 {
-        return Number {
-            short: false,
-            negative: false,
-            size: 0,
-        };
+        return None;
     }
     let value = value_of(log, e);
     let bit = sign_bit(n);
     if value < bit {
-        return Number {
-            short: true,
+        return Some(Number {
             negative: false,
             size: value,
-        };
+        });
     }
-    Number {
-        short: true,
+    Some(Number {
         negative: true,
         size: value - bit,
-    }
+    })
 }
 
 // An element of n bytes held in place: a size, and what its sign bit counts if it is negative.
@@ -327,39 +272,25 @@ pub fn sum(a: Number, b: Number) -> Element
     requires { (a.size < 2147483648) × (b.size < 2147483648) }
     ensures { (log : List ℕ) → bytes_in log result ≡ write (value_in a +ℤ value_in b) }
 {
-    let x = a.negative;
-    let y = b.negative;
-    let m = a.size;
-    let n = b.size;
-    if x {
-        if y {
-            return written(true, m + n);
-        }
-        return difference(n, m);
+    match (a.negative, b.negative) {
+        (true, true) => written(true, a.size + b.size),
+        (true, false) => difference(b.size, a.size),
+        (false, true) => difference(a.size, b.size),
+        (false, false) => written(false, a.size + b.size),
     }
-    if y {
-        return difference(m, n);
-    }
-    written(false, m + n)
 }
 
 // Whether a number is not zero.
 pub fn nonzero(a: Number) -> bool
     ensures { result ≡ nonzero (value_in a) }
 {
-    let size = a.size;
-    if size == 0 {
-        return false;
-    }
-    true
+    a.size != 0
 }
 
 // Whether two numbers are equal.
 pub fn equal(a: Number, b: Number) -> bool
     ensures { result ≡ equal (value_in a) (value_in b) }
 {
-    let x = a.negative;
-    let y = b.negative;
     let m = a.size;
     let n = b.size;
     if m != n {
@@ -368,8 +299,5 @@ pub fn equal(a: Number, b: Number) -> bool
     if m == 0 {
         return true;
     }
-    if x {
-        return y;
-    }
-    !y
+    a.negative == b.negative
 }

@@ -1,7 +1,7 @@
 -- Entries up to the log's end, reported one by one: what is still to come. Assumes nothing.
 use Prim.Native.Nat.{ℕ, suc, ◌+◌, ◌*◌, ◌≤◌, ◌<◌}
 use mathlib.Core.List.{List, [], ◌∷◌}
-use mathlib.Core.Option.{Option, none, some}
+use Rattle.std.specs.Prelude.{Option, None, Some}
 use mathlib.Core.Path.{◌≡◌, refl, sym, ap, ◌∙◌}
 use native.Mathlib.Omega.{arith}
 use lib.ListN.{length, drop, length-drop}
@@ -18,37 +18,37 @@ use Rattle.spend_log.proofs.Parts.{takes-entry}
 use Rattle.spend_judge.specs.Places.{Stands}
 use Rattle.spend_entry.specs.Results.{put_reports, read_or, entries_from, Follow, Reported}
 
-never : {A B : Type 0} {x : B} → none ≡ some x → A
+never : {A B : Type 0} {x : B} → None ≡ Some x → A
 never e = absurd (let z : ◌≡◌ {A = ℕ} 0 1 = cc in omega arith)
 
 module _ (log : Bytes) where
   -- the first of the entries that follow, and the others
   pub record First (at : ℕ) (es : List Entry) : Type 0 where
     pub read : Read Entry
-    pub reads : entry (drop at log) ≡ some read
+    pub reads : entry (drop at log) ≡ Some read
     pub others : Read (List Entry)
-    pub follow : to_end entry read.behind ≡ some others
+    pub follow : to_end entry read.behind ≡ Some others
     pub are : es ≡ read.value ∷ others.value
 
-  pub first_of : (at : ℕ) (g : Read (List Entry)) → at < length log → to_end entry (drop at log) ≡ some g → First at g.value
+  pub first_of : (at : ℕ) (g : Read (List Entry)) → at < length log → to_end entry (drop at log) ≡ Some g → First at g.value
   first_of at g h e = by-entry (entry (drop at log)) refl
     where
       some_bytes : 0 < length (drop at log)
       some_bytes = omega (arith, length-drop at log)
 
-      by-others : (f : Read Entry) → entry (drop at log) ≡ some f → (o : Option (Read (List Entry))) → to_end entry f.behind ≡ o
-          → onward o (λ es. give (f.value ∷ es)) ≡ some g → First at g.value
-      by-others f k none l n = never n
-      by-others f k (some x) l n =
+      by-others : (f : Read Entry) → entry (drop at log) ≡ Some f → (o : Option (Read (List Entry))) → to_end entry f.behind ≡ o
+          → onward o (λ es. give (f.value ∷ es)) ≡ Some g → First at g.value
+      by-others f k None l n = never n
+      by-others f k (Some x) l n =
           record { read = f; reads = k; others = x; follow = l; are = ap (λ (r : Read (List Entry)). r.value) (sym (some_same n)) }
 
       by-entry : (o : Option (Read Entry)) → entry (drop at log) ≡ o → First at g.value
-      by-entry none k = never (sym (to_end-broken entry (takes-less (omega arith) takes-entry) (drop at log) some_bytes k) ∙ e)
-      by-entry (some f) k =
+      by-entry None k = never (sym (to_end-broken entry (takes-less (omega arith) takes-entry) (drop at log) some_bytes k) ∙ e)
+      by-entry (Some f) k =
           by-others f k (to_end entry f.behind) refl
           (sym (to_end-next entry (takes-less (omega arith) takes-entry) (drop at log) f k) ∙ e)
 
-  pub none-follow : (at : ℕ) (g : Read (List Entry)) → length log ≤ at → to_end entry (drop at log) ≡ some g → g.value ≡ []
+  pub none-follow : (at : ℕ) (g : Read (List Entry)) → length log ≤ at → to_end entry (drop at log) ≡ Some g → g.value ≡ []
   none-follow at g h e =
       let l : length (drop at log) ≡ 0 = omega (arith, length-drop at log) in
       ap (λ (r : Read (List Entry)). r.value) (sym (some_same (sym (to_end-done entry (drop at log) l) ∙ e)))
@@ -81,7 +81,7 @@ module _ (c : Context) (t : Tables) (f : Fragment) where
           omega (arith, s.counts, s.same)
 
       module _ {next-after : Bytes} {next : ℕ} (r : Reported c t f log to i after next-after next) where
-        others-follow : to_end entry (drop next log) ≡ some first.others
+        others-follow : to_end entry (drop next log) ≡ Some first.others
         others-follow = ap (to_end entry) (sym (r.behind first.read first.reads)) ∙ first.follow
 
         pub more-come : ToCome log at before next-after next (i + 1)

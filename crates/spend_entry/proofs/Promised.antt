@@ -2,7 +2,10 @@
 use Prim.Native.Nat.{ℕ, ◌*◌, ◌-◌, ◌/◌, ◌≤◌, ◌<◌}
 use mathlib.Core.Bool.{Bool, true, false}
 use mathlib.Core.List.{List, [], ◌++◌}
-use mathlib.Core.Option.{Option, none, some}
+use Rattle.std.specs.Prelude.{Option, None, Some, Result, Ok, Err}
+use Rattle.refusals.specs.declared.Refusal.{Refusal}
+use Rattle.refusals.specs.declared.Refusal.TheVariants as Refusal
+use Rattle.refusals.specs.Numbers.{number_of}
 use mathlib.Core.Path.{◌≡◌, refl, sym, ap, subst, ◌∙◌}
 use native.Mathlib.Omega.{arith}
 use borrow.Author.Tests.{le-leb, lt-leb, eq-eqb, ne_eqb}
@@ -12,6 +15,7 @@ use Rattle.contexts.specs.declared.Context.{Context}
 use Rattle.trees.specs.Fragment.{Fragment}
 use Rattle.trees.specs.Reading.{Answer, refused, done, ◌>>=◌, max_records}
 use Rattle.trees.specs.TreeCheck.{bad_context, Typed, context_of, typed_tree_of, check_of}
+use Rattle.trees.specs.Checked.{type_only}
 use Rattle.script_machine.specs.Numbers.{Bytes}
 use Rattle.script_bytes.specs.Tables.{Tables}
 use Rattle.script_bytes.specs.ScriptOf.{no_entry, output_too_small, has_entries}
@@ -21,8 +25,8 @@ use Rattle.walk.specs.TreeRecords.{TreeRecords, Written, fragment_at}
 use Rattle.walk.specs.Nodes.{AllPlaced}
 use Rattle.walk.proofs.Laws.{rows}
 use Rattle.script_entry.proofs.Scanning.{all-ready}
-use Rattle.claspwillow.specs.Promises.{CheckPromise}
-use Rattle.claspwillow.proofs.CheckLaws.{Passed, passed, refused_as, same-room}
+use Rattle.claspwillow.specs.Results.{number_in}
+use Rattle.claspwillow.proofs.CheckLaws.{Passed, refused-by}
 use Rattle.spend_machine.specs.Entries.{Entry}
 use Rattle.spend_machine.specs.Verdicts.{reports}
 use Rattle.spend_machine.proofs.Laws.{entries-apart}
@@ -31,22 +35,20 @@ use Rattle.spend_log.specs.Places.{Lies, tree_in, tables_in, head_in, count_answ
 use Rattle.spend_log.specs.Logs.{entry}
 use Rattle.spend_log.specs.Readers.{to_end}
 use Rattle.spend_log.specs.declared.Offsets.{Offsets}
-use Rattle.spend_log.specs.declared.Counted.{Counted}
 use Rattle.spend_log.proofs.Heads.{entries-told}
 use Rattle.spend_stack.specs.Memory.{work_words, starts_in}
 use Rattle.spend_stack.proofs.Memory.{starts-back}
 use Rattle.spend_run.specs.Running.{Runs}
 use Rattle.spend_replay.specs.Replay.{bad_log, replay_words, Report, reports_in, replay_log, replay_of, ReplayPromise}
-use Rattle.spend_entry.specs.declared.Given.{Given}
-use Rattle.spend_entry.specs.Results.{put_reports, read_or, entries_from, Gives, Whole, wrong_length}
+use Rattle.spend_entry.specs.Results.{put_reports, read_or, entries_from, count_in, Gives, Whole, wrong_length}
 use Rattle.spend_entry.proofs.Telling.{all-put}
 
-pub gives_as : {a b : Answer (List Report)} {out left : Bytes} {r : Given} → a ≡ b → Gives b out left r → Gives a out left r
+pub gives_as : {a b : Answer (List Report)} {out left : Bytes} {r : Result ℕ Refusal} → a ≡ b → Gives b out left r → Gives a out left r
 gives_as {a} {b} {out} {left} {r} e g = subst (λ (x : Answer (List Report)). Gives x out left r) (sym e) g
 
 -- a refusal leaves the output as it was
-pub refuses : (n : ℕ) (out : Bytes) {r : Given} → r ≡ record { number = n; count = 0 } → Gives (refused n) out out r
-refuses n out e = rw e (record { number = refl; writes = refl; counts = refl })
+pub refuses : (e : Refusal) (out : Bytes) → Gives (refused (number_of e)) out out (Err e)
+refuses e out = record { number = refl; writes = refl; counts = refl }
 
 -- ---- a tree that the check passed
 
@@ -65,12 +67,11 @@ module _ (c : Context) (log : Bytes) (h : Offsets) {tree : Bytes} {f : Fragment}
     tells : has_entries c t f ≡ b
     tells = of-records c t r ∙ ap (entries_below c t tree) (sym counted) ∙ sym told
 
-    pub no-entry : (es : List Entry) (out : Bytes) {g : Given} → b ≡ false → g ≡ record { number = 17; count = 0 }
-        → Gives (reports_in c t (length out) es f) out out g
-    no-entry es out e is =
+    pub no-entry : (es : List Entry) (out : Bytes) → b ≡ false → Gives (reports_in c t (length out) es f) out out (Err Refusal.NoEntry)
+    no-entry es out e =
         let miss : has_entries c t f ≡ false = tells ∙ e in
         let no : reports_in c t (length out) es f ≡ refused no_entry = rw miss in
-        gives_as no (refuses no_entry out is)
+        gives_as no (refuses Refusal.NoEntry out)
 
     module _ (es : List Entry) (out : Bytes) (yes : b ≡ true) {count : ℕ} (many : count ≡ length es) where
       has : has_entries c t f ≡ true
@@ -79,14 +80,14 @@ module _ (c : Context) (log : Bytes) (h : Offsets) {tree : Bytes} {f : Fragment}
       long : length (reports c t f es) ≡ length es
       long = (entries-apart c t f).counted es
 
-      pub no_room : {g : Given} → length out / 8 < count → g ≡ record { number = 13; count = 0 } → Gives (reports_in c t (length out) es f) out out g
-      no_room l is =
+      pub no_room : length out / 8 < count → Gives (reports_in c t (length out) es f) out out (Err Refusal.OutputTooSmall)
+      no_room l =
           let over : length out < 8 * length (reports c t f es) = omega (arith, long, many) in
           let no : reports_in c t (length out) es f ≡ refused output_too_small = rw (has, lt-leb (8 * length (reports c t f es)) (length out) over) in
-          gives_as no (refuses output_too_small out is)
+          gives_as no (refuses Refusal.OutputTooSmall out)
 
       pub room : {left : Bytes} → count ≤ length out / 8 → left ≡ put_reports out 0 (reports c t (fragment_at tree (n - 1)) es)
-          → Gives (reports_in c t (length out) es f) out left (record { number = 0; count = count })
+          → Gives (reports_in c t (length out) es f) out left (Ok count)
       room l put =
           let fits : 8 * length (reports c t f es) ≤ length out = omega (arith, long, many) in
           let root : fragment_at tree (n - 1) ≡ f = ap (λ (k : ℕ). fragment_at tree (k - 1)) counted ∙ r.root in
@@ -113,21 +114,20 @@ module _ (log : Bytes) (h : Offsets) (count : ℕ) (w : Whole log h count) (out 
   unfolding replay_of
   replay-is = rw w.is-log
 
-  pub wrong-work : (length work ≡ replay_words → ⊥) → {m : ℕ} {g : Given} → m ≡ wrong_length h.context → g ≡ record { number = m; count = 0 }
-      → Gives (replay_of log out work) out out g
+  pub wrong-work : (length work ≡ replay_words → ⊥) → {e : Refusal} → number_of e ≡ wrong_length h.context → Gives (replay_of log out work) out out (Err e)
   unfolding replay_log
-  wrong-work n e is = gives_as (replay-is ∙ by-context (context_of h.context) refl ∙ ap refused (sym e)) (refuses _ out is)
+  wrong-work n {e} is = gives_as (replay-is ∙ by-context (context_of h.context) refl ∙ ap refused (sym is)) (refuses e out)
     where
       by-context : (o : Option Context) → context_of h.context ≡ o
           → replay_log (record { front = head_in log h; entries = entries_from log h.entries }) (length out) (length work)
           ≡ refused (wrong_length h.context)
-      by-context (some c) k = rw (k, ne_eqb (length work) replay_words n)
-      by-context none k = rw k
+      by-context (Some c) k = rw (k, ne_eqb (length work) replay_words n)
+      by-context None k = rw k
 
   module _ (right : length work ≡ replay_words) where
     -- the check of the log's tree says what is refused before the reports
     with-check : (words : ℕ) → words ≡ max_records → (a : Answer Typed) → check_of h.context (tree_in log h) words ≡ a → (c : Context)
-        → context_of h.context ≡ some c
+        → context_of h.context ≡ Some c
         → replay_of log out work ≡ (a >>= λ x. reports_in c (tables_in log h) (length out) (entries_from log h.entries) x.tree)
     unfolding replay_log check_of
     with-check words e a k c o =
@@ -139,45 +139,37 @@ module _ (log : Bytes) (h : Offsets) (count : ℕ) (w : Whole log h count) (out 
     check-refused words n e k = by-context (context_of h.context) refl
       where
         by-context : (o : Option Context) → context_of h.context ≡ o → replay_of log out work ≡ refused n
-        by-context (some c) o = with-check words e (refused n) k c o
-        by-context none o =
+        by-context (Some c) o = with-check words e (refused n) k c o
+        by-context None o =
             let same : ◌≡◌ {A = Answer Typed} (refused bad_context) (refused n) = rw o at k in
             let number : bad_context ≡ n = cc (same) in
             replay-is ∙ rw (o, number)
 
-    pub check-refuses : {words after : List ℕ} {n ty : ℕ} {g : Given} → CheckPromise h.context (tree_in log h) words n ty after
-        → length words ≡ max_records → (n ≡ 0 → ⊥) → g ≡ record { number = n; count = 0 } → Gives (replay_of log out work) out out g
-    check-refuses {words} {after} {n} p e z is =
-        gives_as (check-refused (length words) n e (refused_as h.context (tree_in log h) words p.gives z)) (refuses n out is)
+    pub check-refuses : (words : List ℕ) {e : Refusal} → refused (number_of e) ≡ type_only (check_of h.context (tree_in log h) (length words))
+        → length words ≡ max_records → Gives (replay_of log out work) out out (Err e)
+    check-refuses words {e} p room =
+        gives_as (check-refused (length words) (number_of e) room (refused-by h.context (tree_in log h) words p)) (refuses e out)
 
     pub check-passes : {words : List ℕ} → (p : Passed h.context (tree_in log h) words) → length words ≡ max_records
-        → {c : Context} → ((x : Context) → context_of h.context ≡ some x → c ≡ x) → {left : Bytes} {g : Given}
+        → {c : Context} → ((x : Context) → context_of h.context ≡ Some x → c ≡ x) → {left : Bytes} {g : Result ℕ Refusal}
         → Gives (reports_in c (tables_in log h) (length out) (entries_from log h.entries) p.typed.tree) out left g
         → Gives (replay_of log out work) out left g
     check-passes {words} p e {c} same g =
-        gives_as (with-check (length words) e (done p.typed) p.passes c (p.context-is ∙ ap some (sym (same p.its-context p.context-is)))) g
-
-pub check-passed : {context : ℕ} {tree words after : List ℕ} {n ty : ℕ} → CheckPromise context tree words n ty after → n ≡ 0 → Passed context tree words
-check-passed {context} {tree} {words} p z = passed context tree words p.gives z
-
--- work memory keeps its length
-pub check-room : {context : ℕ} {tree words after : List ℕ} {n ty : ℕ} → CheckPromise context tree words n ty after → length words ≡ max_records → length after ≡ max_records
-check-room {context} {tree} {words} p e = same-room words p.clears ∙ e
+        gives_as (with-check (length words) e (done p.typed) p.passes c (p.context-is ∙ ap Some (sym (same p.its-context p.context-is)))) g
 
 abbrev pub written : {context : ℕ} {tree : Bytes} {work : List ℕ} → Passed context tree work → Written tree
 written {context} {tree} {work} x = record { root = x.typed.tree; rows = rows context tree (length work) x.typed x.passes }
 
 -- ---- reading the log
 
-pub broken-log : (log out : Bytes) (work : List ℕ) → log_of log ≡ none → {g : Given} → g ≡ record { number = 14; count = 0 }
-    → Gives (replay_of log out work) out out g
+pub broken-log : (log out : Bytes) (work : List ℕ) → log_of log ≡ None → Gives (replay_of log out work) out out (Err Refusal.BadTree)
 unfolding replay_of
-broken-log log out work e is =
+broken-log log out work e =
     let no : replay_of log out work ≡ refused bad_log = rw e in
-    gives_as no (refuses bad_log out is)
+    gives_as no (refuses Refusal.BadTree out)
 
-pub whole : (log : Bytes) (h : Offsets) {a : Counted} {count : ℕ} → Lies log h → a ≡ count_answer (to_end entry (drop h.entries log))
-    → a ≡ Counted.Entries count → Whole log h count
+pub whole : (log : Bytes) (h : Offsets) {a : Option ℕ} {count : ℕ} → Lies log h → a ≡ count_answer (to_end entry (drop h.entries log))
+    → a ≡ Some count → Whole log h count
 whole log h {a} {count} lies e m =
     let x = entries-told log h lies e m in
     let from : entries_from log h.entries ≡ x.those = ap (read_or []) x.stand.reads in
@@ -185,12 +177,12 @@ whole log h {a} {count} lies e m =
       lies = lies;
       follow = record { within = lies.within; read = record { value = x.those; behind = x.stand.last }; reads = x.stand.reads };
       counts = x.count ∙ ap length (sym from);
-      is-log = x.is-log ∙ ap (λ (es : List Entry). some (record { front = head_in log h; entries = es })) (sym from);
+      is-log = x.is-log ∙ ap (λ (es : List Entry). Some (record { front = head_in log h; entries = es })) (sym from);
     }
 
 -- ---- the promise
 
-pub promised : (log out : Bytes) (work worked : List ℕ) {left after : Bytes} {r : Given} → Gives (replay_of log out work) out left r
-    → length worked ≡ length work → after ≡ zeroed worked → ReplayPromise log out work r.number left r.count after
+pub promised : (log out : Bytes) (work worked : List ℕ) {left after : Bytes} {r : Result ℕ Refusal} → Gives (replay_of log out work) out left r
+    → length worked ≡ length work → after ≡ zeroed worked → ReplayPromise log out work (number_in r) left (count_in r) after
 promised log out work worked g e c =
     record { gives = g.number; writes = g.writes; counts = g.counts; clears = c ∙ ap (λ (n : ℕ). replicate n 0) e }

@@ -5,6 +5,7 @@
 #![tactic(auto)]
 
 ghost use Rattle.std.specs.Prelude.{◌≡◌, ◌+◌, ◌*◌, ◌-◌, ◌≤◌, length};
+ghost use Rattle.refusals.specs.Numbers.{number_of};
 ghost use Rattle.trees.specs.Fragment.{Fragment};
 ghost use Rattle.walk.specs.TreeRecords.{TreeRecords, Written, fragment_at};
 ghost use Rattle.walk.specs.Nodes.{AllPlaced};
@@ -13,38 +14,16 @@ ghost use Rattle.spend_machine.specs.Verdicts.{verdict_number, verdict, reports}
 ghost use Rattle.spend_log.specs.Places.{Lies, tree_in, tables_in};
 ghost use Rattle.spend_stack.specs.Memory.{work_words, starts_in, Keeps};
 ghost use Rattle.spend_judge.specs.Places.{entry_in, Lie, Stands};
+ghost use Rattle.spend_judge.specs.Results.{report_number};
 ghost use Rattle.spend_run.specs.Running.{Runs};
 ghost use Rattle.spend_replay.specs.Replay.{replay_words, reports_in, replay_of, ReplayPromise};
 ghost use Rattle.spend_entry.specs.Results.{put_numbers, put_reports, entries_from, Follow, Reported, Gives, Whole, wrong_length};
 
 use contexts::Context;
-use spend_judge::EntryAt;
-use spend_log::{Counted, HeadAt, Offsets};
-
-// Document 01's and document 02's numbers of the refusals that are given here.
-const BAD_CONTEXT: u32 = 1;
-
-const BAD_WORK: u32 = 2;
-
-const OUTPUT_TOO_SMALL: u32 = 13;
-
-const BAD_LOG: u32 = 14;
-
-const NO_ENTRY: u32 = 17;
-
-// The number of an outcome and how many entries it reported.
-#[derive(Clone, Copy)]
-pub struct Given {
-    pub number: u32,
-    pub count: u64,
-}
-
-// A refusal.
-fn refusal(number: u32) -> Given
-    ensures { result ≡ record { number = number; count = 0 } }
-{
-    Given { number, count: 0 }
-}
+use refusals::Refusal;
+use script_leaves::Tables;
+use spend_judge::{EntryAt, Verdict};
+use spend_log::Offsets;
 
 // The verdict on an entry: it is within the limits, and its run from its own stack is judged; or it is too large.
 fn verdict_on(
@@ -55,10 +34,10 @@ fn verdict_on(
     root: usize,
     work: &mut [u64],
     e: EntryAt,
-) -> u32
+) -> Verdict
     requires { Runs context log.now head tree.now (starts_in work.old) root × Lie log.now e
         × (length work.old ≡ work_words) }
-    ensures value { result ≡ verdict_number (verdict context (tables_in log.now head) (fragment_at tree.now root)
+    ensures value { report_number result ≡ verdict_number (verdict context (tables_in log.now head) (fragment_at tree.now root)
         (entry_in log.now e)) }
     ensures keeps { Keeps work.old work.new }
 {
@@ -68,7 +47,7 @@ fn verdict_on(
         let r = spend_run::run_record(context, log, head, tree, root, work, m);
         return spend_judge::judge(log, &work[0..spend_stack::ALT], r, e.ending);
     }
-    spend_judge::TOO_LARGE
+    Verdict::TooLarge
 }
 
 // Writes a report as number i.
@@ -100,7 +79,7 @@ fn report_entry(
 {
     let e = spend_judge::entry_at(log, at);
     let verdict = verdict_on(context, log, head, tree, root, work, e);
-    put_report(out, i, e.number, verdict);
+    put_report(out, i, e.number, verdict.number());
     e.next
 }
 
@@ -123,6 +102,7 @@ fn report_all(
 {
     let mut to = head.entries;
     let mut i = 0;
+    // Entries are of unequal length.
     while to < log.len() {
         to = report_entry(context, log, head, tree, root, work, to, i, out);
         i += 1;
@@ -141,21 +121,13 @@ fn has_entries(
     requires { Lies log.now head × AllPlaced tree.now starts.now (count - 1) }
     ensures { result ≡ entries_below context (tables_in log.now head) tree.now count }
 {
-    let keys = head.keys;
-    let key_hashes = head.key_hashes;
-    let hashes32 = head.hashes32;
-    let hashes20 = head.hashes20;
-    let entries = head.entries;
-    script_entry::all_entries(
-        context,
-        tree,
-        &log[keys..key_hashes],
-        &log[key_hashes..hashes32],
-        &log[hashes32..hashes20],
-        &log[hashes20..entries],
-        starts,
-        count,
-    )
+    let tables = Tables {
+        keys: &log[head.keys..head.key_hashes],
+        key_hashes: &log[head.key_hashes..head.hashes32],
+        hashes32: &log[head.hashes32..head.hashes20],
+        hashes20: &log[head.hashes20..head.entries],
+    };
+    script_entry::all_entries(context, tree, tables, starts, count)
 }
 
 // The replay over a tree that the check passed.
@@ -167,7 +139,7 @@ fn replay_tree(
     tree: &[u8],
     out: &mut [u8],
     work: &mut [u64],
-) -> Given
+) -> Result<usize, Refusal>
     requires { Whole log.now head count × (tree.now ≡ tree_in log.now head) × Written tree.now × (length work.old ≡ work_words) }
     ensures gives { (f : Fragment) → TreeRecords tree.now f
         → Gives (reports_in context (tables_in log.now head) (length out.old)
@@ -185,14 +157,11 @@ fn replay_tree(
     ) {
         if count <= out.len() / 8 {
             report_all(context, log, head, tree, n - 1, work, out);
-            return Given {
-                number: 0,
-                count: count as u64,
-            };
+            return Ok(count);
         }
-        return refusal(OUTPUT_TOO_SMALL);
+        return Err(Refusal::OutputTooSmall);
     }
-    refusal(NO_ENTRY)
+    Err(Refusal::NoEntry)
 }
 
 // The replay of a log that is not broken, where work memory has its one length.
@@ -202,40 +171,40 @@ fn replay_checked(
     count: usize,
     out: &mut [u8],
     work: &mut [u64],
-) -> Given
+) -> Result<usize, Refusal>
     requires { Whole log.now head count × (length work.old ≡ replay_words) }
     ensures gives { Gives (replay_of log.now out.old work.old) out.old out.new result }
     ensures work_len_unchanged { length work.new ≡ length work.old }
 {
-    let keys = head.keys;
-    let tree = &log[spend_log::TREE..keys];
-    let mut ty = 0;
-    let number = claspwillow::claspwillow_check(
+    let tree = &log[spend_log::TREE..head.keys];
+    trees::check(
         head.context,
         tree,
         &mut work[spend_stack::STARTS..spend_stack::WORDS],
-        &mut ty,
-    );
-    if number == 0 {
-        let context = claspwillow::context_of(head.context);
-        return replay_tree(context, log, head, count, tree, out, work);
-    }
-    refusal(number)
+    )?;
+    let context = claspwillow::context_of(head.context);
+    replay_tree(context, log, head, count, tree, out, work)
 }
 
-// The number where work memory has another length.
-fn wrong_length(context: u32) -> u32
-    ensures { result ≡ wrong_length context }
+// The refusal where work memory has another length.
+fn wrong_length(context: u32) -> Refusal
+    ensures { number_of result ≡ wrong_length context }
 {
     match context {
-        0 => BAD_WORK,
-        1 => BAD_WORK,
-        _ => BAD_CONTEXT,
+        0 => Refusal::BadWork,
+        1 => Refusal::BadWork,
+        _ => Refusal::BadContext,
     }
 }
 
 // The replay of a log that is not broken.
-fn replay_whole(log: &[u8], head: Offsets, count: usize, out: &mut [u8], work: &mut [u64]) -> Given
+fn replay_whole(
+    log: &[u8],
+    head: Offsets,
+    count: usize,
+    out: &mut [u8],
+    work: &mut [u64],
+) -> Result<usize, Refusal>
     requires { Whole log.now head count }
     ensures gives { Gives (replay_of log.now out.old work.old) out.old out.new result }
     ensures work_len_unchanged { length work.new ≡ length work.old }
@@ -243,19 +212,20 @@ fn replay_whole(log: &[u8], head: Offsets, count: usize, out: &mut [u8], work: &
     if work.len() == spend_stack::WORDS {
         return replay_checked(log, head, count, out, work);
     }
-    refusal(wrong_length(head.context))
+    Err(wrong_length(head.context))
 }
 
 // The replay of a log.
-fn replay(log: &[u8], out: &mut [u8], work: &mut [u64]) -> Given
+fn replay(log: &[u8], out: &mut [u8], work: &mut [u64]) -> Result<usize, Refusal>
     ensures gives { Gives (replay_of log.now out.old work.old) out.old out.new result }
     ensures work_len_unchanged { length work.new ≡ length work.old }
 {
-    let HeadAt::Whole(head) = spend_log::head_of(log) else {
-        return refusal(BAD_LOG);
+    // A broken log has the number of a broken tree.
+    let Some(head) = spend_log::head_of(log) else {
+        return Err(Refusal::BadTree);
     };
-    let Counted::Entries(count) = spend_log::count_entries(log, head.entries) else {
-        return refusal(BAD_LOG);
+    let Some(count) = spend_log::count_entries(log, head.entries) else {
+        return Err(Refusal::BadTree);
     };
     replay_whole(log, head, count, out, work)
 }
@@ -273,8 +243,16 @@ pub fn claspwillow_replay(
 {
     let r = replay(log, reports, work);
     words::clear(work);
-    *entries = r.count;
-    r.number
+    match r {
+        Ok(count) => {
+            *entries = count as u64;
+            0
+        }
+        Err(e) => {
+            *entries = 0;
+            e.number()
+        }
+    }
 }
 
 // The one length of work memory that the replay takes, in words.

@@ -2,7 +2,7 @@
 use Prim.Native.Nat.{ℕ, zero, suc, ◌+◌, ◌≤◌, ◌<◌}
 use mathlib.Core.Bool.{Bool, true, false, cond}
 use mathlib.Core.List.{List}
-use mathlib.Core.Option.{some}
+use Rattle.std.specs.Prelude.{Some, Option}
 use mathlib.Core.Path.{◌≡◌, refl, sym, ap, ◌∙◌}
 use native.Mathlib.Omega.{arith}
 use lib.Dec.{eqb}
@@ -13,12 +13,11 @@ use Rattle.spend_machine.specs.Entries.{Outcome, End, Entry}
 use Rattle.spend_log.specs.Readers.{Read, number, counted}
 use Rattle.spend_log.specs.Logs.{elements, outcome, ending, entry}
 use Rattle.spend_log.specs.Places.{place_of, element_at}
-use Rattle.spend_log.specs.declared.Place.{Place}
-use Rattle.spend_log.specs.declared.Place.TheVariants as Place
 use Rattle.spend_log.proofs.Passing.{some_same}
 use Rattle.spend_log.proofs.Parts.{Is}
 use Rattle.spend_asks.proofs.Next.{ends-later}
-use Rattle.spend_judge.specs.Places.{elements_from, elements_end, stack_in, stack_end, outcomes_in, outcomes_past, end_in, end_past, entry_at, entry_in, Lie, place_or}
+use Rattle.spend_judge.specs.Places.{elements_from, elements_end, stack_in, stack_end, outcomes_in, outcomes_past, end_in, end_past, entry_at, entry_in, Lie}
+use Rattle.std.specs.Option.{unwrap_or}
 use Rattle.spend_judge.specs.declared.EntryAt.{EntryAt}
 use Rattle.spend_judge.proofs.Readings.{went, place_read, number_read, stack-read, outcomes-read, end_read}
 
@@ -56,11 +55,11 @@ pub record EntryRead (log : Bytes) (at : ℕ) (g : Read Entry) : Type 0 where
   pub room : at + 4 ≤ length log
   pub stack-in : stack_end log (at + 4) ≤ length log
   pub outcomes-in : outcomes_past log (stack_end log (at + 4)) ≤ length log
-  pub stack-place : place_of elements log (at + 4) ≡ Place.At (stack_end log (at + 4))
-  pub outcomes-place : place_of (counted outcome) log (stack_end log (at + 4)) ≡ Place.At (outcomes_past log (stack_end log (at + 4)))
-  pub end-place : place_of ending log (outcomes_past log (stack_end log (at + 4))) ≡ Place.At (end_past log (outcomes_past log (stack_end log (at + 4))))
+  pub stack-place : place_of elements log (at + 4) ≡ Some (stack_end log (at + 4))
+  pub outcomes-place : place_of (counted outcome) log (stack_end log (at + 4)) ≡ Some (outcomes_past log (stack_end log (at + 4)))
+  pub end-place : place_of ending log (outcomes_past log (stack_end log (at + 4))) ≡ Some (end_past log (outcomes_past log (stack_end log (at + 4))))
 
-pub entry_read : (log : Bytes) (at : ℕ) → at ≤ length log → (g : Read Entry) → entry (drop at log) ≡ some g → EntryRead log at g
+pub entry_read : (log : Bytes) (at : ℕ) → at ≤ length log → (g : Read Entry) → entry (drop at log) ≡ Some g → EntryRead log at g
 unfolding entry entry_at entry_in
 entry_read log at h g e =
     let w1 = went (number (drop at log)) _ g e in
@@ -95,16 +94,16 @@ entry_read log at h g e =
 
 -- where the parts begin, by the places that were told
 module _ (log : Bytes) (at : ℕ) {g : Read Entry} (r : EntryRead log at g) where
-  pub stack-told : {p : Place} {a : ℕ} → p ≡ place_of elements log (at + 4) → a ≡ place_or p (at + 4) → a ≡ stack_end log (at + 4)
-  stack-told e f = f ∙ ap (λ (x : Place). place_or x (at + 4)) (e ∙ r.stack-place)
+  pub stack-told : {p : Option ℕ} {a : ℕ} → p ≡ place_of elements log (at + 4) → a ≡ unwrap_or p (at + 4) → a ≡ stack_end log (at + 4)
+  stack-told e f = f ∙ ap (λ (x : Option ℕ). unwrap_or x (at + 4)) (e ∙ r.stack-place)
 
-  pub outcomes-told : {p : Place} {a b : ℕ} → a ≡ stack_end log (at + 4) → p ≡ place_of (counted outcome) log a → b ≡ place_or p a
+  pub outcomes-told : {p : Option ℕ} {a b : ℕ} → a ≡ stack_end log (at + 4) → p ≡ place_of (counted outcome) log a → b ≡ unwrap_or p a
       → b ≡ outcomes_past log (stack_end log (at + 4))
-  outcomes-told {p} {a} k e f = f ∙ ap (λ (x : Place). place_or x a) (e ∙ ap (place_of (counted outcome) log) k ∙ r.outcomes-place)
+  outcomes-told {p} {a} k e f = f ∙ ap (λ (x : Option ℕ). unwrap_or x a) (e ∙ ap (place_of (counted outcome) log) k ∙ r.outcomes-place)
 
-  pub end-told : {p : Place} {b d : ℕ} → b ≡ outcomes_past log (stack_end log (at + 4)) → p ≡ place_of ending log b → d ≡ place_or p b
+  pub end-told : {p : Option ℕ} {b d : ℕ} → b ≡ outcomes_past log (stack_end log (at + 4)) → p ≡ place_of ending log b → d ≡ unwrap_or p b
       → d ≡ end_past log (outcomes_past log (stack_end log (at + 4)))
-  end-told {p} {b} k e f = f ∙ ap (λ (x : Place). place_or x b) (e ∙ ap (place_of ending log) k ∙ r.end-place)
+  end-told {p} {b} k e f = f ∙ ap (λ (x : Option ℕ). unwrap_or x b) (e ∙ ap (place_of ending log) k ∙ r.end-place)
 
 pub parts-told : (log : Bytes) (at : ℕ) {n a b d : ℕ} → n ≡ u32 log at → a ≡ stack_end log (at + 4) → b ≡ outcomes_past log (stack_end log (at + 4))
     → d ≡ end_past log (outcomes_past log (stack_end log (at + 4)))

@@ -2,7 +2,7 @@
 use Prim.Native.Nat.{ℕ, zero, suc, ◌+◌, ◌-◌, ◌≤◌, ◌<◌}
 use mathlib.Core.Bool.{Bool, true, false, cond}
 use mathlib.Core.List.{List, [], ◌∷◌, reverse}
-use mathlib.Core.Option.{Option, none, some}
+use Rattle.std.specs.Prelude.{Option, None, Some}
 use mathlib.Core.Path.{◌≡◌, refl, sym, ap, ◌∙◌}
 use native.Mathlib.Omega.{arith}
 use borrow.Author.Tests.{leb-true, leb-false, eq-eqb, ne_eqb}
@@ -14,14 +14,12 @@ use Rattle.spend_machine.specs.Entries.{Outcome, no, yes, digest, End, aborts, l
 use Rattle.spend_log.specs.Readers.{Read, Reader, give, broken, onward, ◌>>=◌, block, byte, number, several, counted}
 use Rattle.spend_log.specs.Logs.{element, elements, outcome_of, outcome, end_of, ending}
 use Rattle.spend_log.specs.Places.{place_of, element_at, digest_by, outcome_at}
-use Rattle.spend_log.specs.declared.Place.{Place}
-use Rattle.spend_log.specs.declared.Place.TheVariants as Place
 use Rattle.spend_log.proofs.Passing.{some_same, place-passed}
 use Rattle.spend_log.proofs.Parts.{block-found, block-missing, number_short, number-there, byte-found, byte-missing, Is}
 use Rattle.spend_stack.specs.Outcomes.{outcome_by, outcomes_from, outcomes_end}
 use Rattle.spend_judge.specs.Places.{element_in, elements_from, elements_end, stack_in, stack_end, outcomes_in, outcomes_past, end_in, end_past}
 
-never : {A B : Type 0} {x : B} → none ≡ some x → A
+never : {A B : Type 0} {x : B} → None ≡ Some x → A
 never e = absurd (let z : ◌≡◌ {A = ℕ} 0 1 = cc in omega arith)
 
 -- ---- two readers in a row
@@ -29,30 +27,30 @@ never e = absurd (let z : ◌≡◌ {A = ℕ} 0 1 = cc in omega arith)
 -- the first read this, and the second the whole
 pub record Went {A B : Type 0} (o : Option (Read A)) (next : A → Reader B) (g : Read B) : Type 0 where
   pub first : Read A
-  pub reads : o ≡ some first
-  pub then : next first.value first.behind ≡ some g
+  pub reads : o ≡ Some first
+  pub then : next first.value first.behind ≡ Some g
 
-pub went : {A B : Type 0} (o : Option (Read A)) (next : A → Reader B) (g : Read B) → onward o next ≡ some g → Went o next g
-went none next g e = never e
-went (some a) next g e = record { first = a; reads = refl; then = e }
+pub went : {A B : Type 0} (o : Option (Read A)) (next : A → Reader B) (g : Read B) → onward o next ≡ Some g → Went o next g
+went None next g e = never e
+went (Some a) next g e = record { first = a; reads = refl; then = e }
 
 -- what a reader gave, and where
-given : {A : Type 0} {log : Bytes} {x y : A} {s : Bytes} {next : ℕ} {g : Read A} → give x s ≡ some g → x ≡ y → s ≡ drop next log → next ≤ length log
+given : {A : Type 0} {log : Bytes} {x y : A} {s : Bytes} {next : ℕ} {g : Read A} → give x s ≡ Some g → x ≡ y → s ≡ drop next log → next ≤ length log
     → Is g log y next
 given e v b w =
     let f = sym (some_same e) in
     record { value = ap (λ r. r.value) f ∙ v; behind = ap (λ r. r.behind) f ∙ b; within = w }
 
 -- the place where a value that was read ends
-pub place_read : {A : Type 0} (r : Reader A) (log : Bytes) (at : ℕ) {f : Read A} {x : A} {next : ℕ} → r (drop at log) ≡ some f → Is f log x next
-    → place_of r log at ≡ Place.At next
+pub place_read : {A : Type 0} (r : Reader A) (log : Bytes) (at : ℕ) {f : Read A} {x : A} {next : ℕ} → r (drop at log) ≡ Some f → Is f log x next
+    → place_of r log at ≡ Some next
 place_read r log at {f} {x} {next} e is =
-    place-passed r log at {v = f.value} (e ∙ ap (λ (s : Bytes). some (record { value = f.value; behind = s })) is.behind) is.within
+    place-passed r log at {v = f.value} (e ∙ ap (λ (s : Bytes). Some (record { value = f.value; behind = s })) is.behind) is.within
 
 module _ (log : Bytes) where
   -- ---- numbers and elements
 
-  pub number_read : (at : ℕ) → at ≤ length log → (g : Read ℕ) → number (drop at log) ≡ some g → Is g log (u32 log at) (at + 4)
+  pub number_read : (at : ℕ) → at ≤ length log → (g : Read ℕ) → number (drop at log) ≡ Some g → Is g log (u32 log at) (at + 4)
   number_read at h g e = by-room (leb (at + 4) (length log)) refl
     where
       by-room : (t : Bool) → leb (at + 4) (length log) ≡ t → Is g log (u32 log at) (at + 4)
@@ -61,7 +59,7 @@ module _ (log : Bytes) where
           given (sym (number-there log at l) ∙ e) refl refl l
       by-room false t = never (sym (number_short log at h (leb-false (at + 4) (length log) t)) ∙ e)
 
-  block_read : (n at : ℕ) → at ≤ length log → (g : Read Bytes) → block n (drop at log) ≡ some g → Is g log (take n (drop at log)) (at + n)
+  block_read : (n at : ℕ) → at ≤ length log → (g : Read Bytes) → block n (drop at log) ≡ Some g → Is g log (take n (drop at log)) (at + n)
   block_read n at h g e = by-room (leb (at + n) (length log)) refl
     where
       by-room : (t : Bool) → leb (at + n) (length log) ≡ t → Is g log (take n (drop at log)) (at + n)
@@ -70,7 +68,7 @@ module _ (log : Bytes) where
           given (sym (block-found n log at l) ∙ e) refl refl l
       by-room false t = never (sym (block-missing n log at (leb-false (at + n) (length log) t) h) ∙ e)
 
-  pub element-read : (at : ℕ) → at ≤ length log → (g : Read Bytes) → element (drop at log) ≡ some g
+  pub element-read : (at : ℕ) → at ≤ length log → (g : Read Bytes) → element (drop at log) ≡ Some g
       → Is g log (element_in log at) (element_at log at).next
   unfolding element
   element-read at h g e =
@@ -81,7 +79,7 @@ module _ (log : Bytes) where
 
   -- ---- several, one behind the other
 
-  elements-read : (n at : ℕ) → at ≤ length log → (g : Read (List Bytes)) → several element n (drop at log) ≡ some g
+  elements-read : (n at : ℕ) → at ≤ length log → (g : Read (List Bytes)) → several element n (drop at log) ≡ Some g
       → Is g log (elements_from log at n) (elements_end log at n)
   unfolding several elements_from elements_end
   elements-read zero at h g e = given e refl refl h
@@ -93,7 +91,7 @@ module _ (log : Bytes) where
       given v.then (ap (λ (y : Bytes). y ∷ v.first.value) x.value ∙ ap (λ (ys : List Bytes). element_in log at ∷ ys) xs.value) xs.behind
       xs.within
 
-  pub stack-read : (at : ℕ) → at ≤ length log → (g : Read Stack) → elements (drop at log) ≡ some g → Is g log (stack_in log at) (stack_end log at)
+  pub stack-read : (at : ℕ) → at ≤ length log → (g : Read Stack) → elements (drop at log) ≡ Some g → Is g log (stack_in log at) (stack_end log at)
   unfolding elements counted stack_in stack_end
   stack-read at h g e =
       let w = went (counted element (drop at log)) _ g e in
@@ -105,7 +103,7 @@ module _ (log : Bytes) where
 
   -- ---- outcomes
 
-  by-sort : (at : ℕ) → at + 1 ≤ length log → (g : Read Outcome) (sort : ℕ) → outcome_of sort (drop (at + 1) log) ≡ some g
+  by-sort : (at : ℕ) → at + 1 ≤ length log → (g : Read Outcome) (sort : ℕ) → outcome_of sort (drop (at + 1) log) ≡ Some g
       → Is g log (outcome_by log (record { sort = sort; digest = digest_by log at sort; next = (digest_by log at sort).next })) (digest_by log at sort).next
   unfolding outcome_of
   by-sort at l g zero e = given e refl refl l
@@ -118,7 +116,7 @@ module _ (log : Bytes) where
       let m = suc (suc (suc n)) in
       never (simp (ne_eqb m 0 (λ q. omega arith), ne_eqb m 1 (λ q. omega arith), ne_eqb m 2 (λ q. omega arith)) at e)
 
-  pub outcome-read : (at : ℕ) → at ≤ length log → (g : Read Outcome) → outcome (drop at log) ≡ some g
+  pub outcome-read : (at : ℕ) → at ≤ length log → (g : Read Outcome) → outcome (drop at log) ≡ Some g
       → Is g log (outcome_by log (outcome_at log at)) (outcome_at log at).next
   unfolding outcome
   outcome-read at h g e = by-room (leb (at + 1) (length log)) refl
@@ -131,7 +129,7 @@ module _ (log : Bytes) where
           let l = leb-false (at + 1) (length log) t in
           never (sym (ap (λ o. onward o outcome_of) (byte-missing log at (omega arith))) ∙ e)
 
-  several-read : (n at : ℕ) → at ≤ length log → (g : Read (List Outcome)) → several outcome n (drop at log) ≡ some g
+  several-read : (n at : ℕ) → at ≤ length log → (g : Read (List Outcome)) → several outcome n (drop at log) ≡ Some g
       → Is g log (outcomes_from log at n) (outcomes_end log at n)
   unfolding several outcomes_from outcomes_end
   several-read zero at h g e = given e refl refl h
@@ -143,7 +141,7 @@ module _ (log : Bytes) where
       given v.then (ap (λ (y : Outcome). y ∷ v.first.value) x.value ∙ ap (λ (ys : List Outcome). outcome_by log (outcome_at log at) ∷ ys) xs.value)
       xs.behind xs.within
 
-  pub outcomes-read : (at : ℕ) → at ≤ length log → (g : Read (List Outcome)) → counted outcome (drop at log) ≡ some g
+  pub outcomes-read : (at : ℕ) → at ≤ length log → (g : Read (List Outcome)) → counted outcome (drop at log) ≡ Some g
       → Is g log (outcomes_in log at) (outcomes_past log at)
   unfolding counted outcomes_in outcomes_past
   outcomes-read at h g e =
@@ -154,7 +152,7 @@ module _ (log : Bytes) where
 
   -- ---- recorded ends
 
-  end_by : (at : ℕ) → at + 1 ≤ length log → (g : Read End) (sort : ℕ) → end_of sort (drop (at + 1) log) ≡ some g
+  end_by : (at : ℕ) → at + 1 ≤ length log → (g : Read End) (sort : ℕ) → end_of sort (drop (at + 1) log) ≡ Some g
       → Is g log (cond (eqb sort 0) aborts (leaves (stack_in log (at + 1)))) (cond (eqb sort 0) (at + 1) (stack_end log (at + 1)))
   unfolding end_of
   end_by at l g zero e = given e refl refl l
@@ -166,7 +164,7 @@ module _ (log : Bytes) where
       let m = suc (suc n) in
       never (simp (ne_eqb m 0 (λ q. omega arith), ne_eqb m 1 (λ q. omega arith)) at e)
 
-  pub end_read : (at : ℕ) → at ≤ length log → (g : Read End) → ending (drop at log) ≡ some g → Is g log (end_in log at) (end_past log at)
+  pub end_read : (at : ℕ) → at ≤ length log → (g : Read End) → ending (drop at log) ≡ Some g → Is g log (end_in log at) (end_past log at)
   unfolding ending end_in end_past
   end_read at h g e = by-room (leb (at + 1) (length log)) refl
     where

@@ -1,15 +1,12 @@
 -- An entry where it stands in the log: document 02, R-6, by the places of `spend_log`, specs/Places.antt. proofs/Entries.antt shows that what
 -- stands there is what the readers of `spend_log`, specs/Logs.antt, read.
-use Rattle.std.specs.Prelude.{ℕ, zero, suc, ◌+◌, ◌≤◌, ◌<◌, cond, List, [], ◌∷◌, reverse, ◌≡◌, eqb, length, get_or, take, drop}
-use Rattle.std.proofs.Math.Option.{some}
+use Rattle.std.specs.Prelude.{ℕ, zero, suc, ◌+◌, ◌≤◌, ◌<◌, cond, List, [], ◌∷◌, reverse, ◌≡◌, eqb, length, get_or, take, drop, Some}
 use Rattle.records.specs.Numbers.{u32}
 use Rattle.script_machine.specs.Numbers.{Bytes, Stack}
 use Rattle.spend_machine.specs.Entries.{Outcome, End, aborts, leaves, Entry}
 use Rattle.spend_log.specs.Readers.{Read}
 use Rattle.spend_log.specs.Logs.{entry}
 use Rattle.spend_log.specs.Places.{element_at}
-use Rattle.spend_log.specs.declared.Place.{Place}
-use Rattle.spend_log.specs.declared.Place.TheVariants as Place
 use Rattle.spend_stack.specs.Outcomes.{outcomes_from, outcomes_end}
 use Rattle.spend_judge.specs.declared.EntryAt.{EntryAt}
 
@@ -68,9 +65,4 @@ pub record Lie (log : Bytes) (e : EntryAt) : Type 0 where
 pub record Stands (log : Bytes) (at : ℕ) : Type 0 where
   pub within : at ≤ length log
   pub read : Read Entry
-  pub reads : entry (drop at log) ≡ some read
-
--- where a part ends; the place where it begins, if it does not fit
-abbrev pub place_or : Place → ℕ → ℕ
-place_or (Place.At next) at = next
-place_or Place.Broken at = at
+  pub reads : entry (drop at log) ≡ Some read

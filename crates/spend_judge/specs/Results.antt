@@ -1,11 +1,20 @@
--- What loading a stack leaves, and a run before its first word: document 02, R-6.
+-- The number of a verdict, what loading a stack leaves, and a run before its first word: document 02, R-6.
 use Rattle.std.specs.Prelude.{ℕ, ◌≤◌, List, [], ◌≡◌, length}
 use Rattle.script_machine.specs.Numbers.{Bytes, Stack}
 use Rattle.script_machine.specs.Machine.{state}
 use Rattle.spend_machine.specs.Recorded.{stands}
 use Rattle.spend_stack.specs.declared.Machine.{Machine}
 use Rattle.spend_stack.specs.Machines.{stack_of, run_of, Fits}
+use Rattle.spend_judge.specs.declared.Verdict.{Verdict}
+use Rattle.spend_judge.specs.declared.Verdict.TheVariants as Verdict
 use Rattle.spend_judge.specs.Places.{outcomes_in}
+
+-- the number that a report has for a verdict
+abbrev pub report_number : Verdict → ℕ
+report_number Verdict.Agrees = 0
+report_number Verdict.Differs = 1
+report_number Verdict.Mismatched = 2
+report_number Verdict.TooLarge = 3
 
 -- The lowest n elements of the main stack's memory are this stack.
 pub record Loaded (log before after : List ℕ) (n : ℕ) (m : Stack) : Type 0 where

@@ -14,11 +14,10 @@ ghost use Rattle.spend_machine.specs.Verdicts.{small_bytes, small_stack, small_o
 ghost use Rattle.spend_stack.specs.Outcomes.{outcomes_from, outcomes_end};
 ghost use Rattle.spend_stack.specs.Machines.{stack_of, run_of, Fits};
 ghost use Rattle.spend_judge.specs.Places.{elements_from, elements_end, stack_in, stack_end, outcomes_in, outcomes_past, end_in, end_past};
-ghost use Rattle.spend_judge.specs.Places.{entry_at, entry_in, Lie, Stands, place_or};
-ghost use Rattle.spend_judge.specs.Results.{Loaded, Begins};
+ghost use Rattle.spend_judge.specs.Places.{entry_at, entry_in, Lie, Stands};
+ghost use Rattle.spend_judge.specs.Results.{report_number, Loaded, Begins};
 
 use spend_elements::Element;
-use spend_log::Place;
 use spend_stack::{Machine, Status};
 
 // The bench's own limits: elements on a stack, bytes in an element and in a digest.
@@ -29,14 +28,28 @@ const MAX_BYTES: usize = 520;
 // The byte in front of a recorded end that is an abort.
 const ABORT: u8 = 0;
 
-// The numbers that a report has for the verdicts.
-const AGREES: u32 = 0;
+// What a run comes to against its recorded end.
+#[derive(Clone, Copy)]
+pub enum Verdict {
+    Agrees,
+    Differs,
+    Mismatched,
+    TooLarge,
+}
 
-const DIFFERS: u32 = 1;
-
-const MISMATCHED: u32 = 2;
-
-pub const TOO_LARGE: u32 = 3;
+impl Verdict {
+    // The number that a report has for it.
+    pub fn number(self) -> u32
+        ensures { result ≡ report_number self }
+    {
+        match self {
+            Verdict::Agrees => 0,
+            Verdict::Differs => 1,
+            Verdict::Mismatched => 2,
+            Verdict::TooLarge => 3,
+        }
+    }
+}
 
 // An entry's number, where its stack, its outcomes and its recorded end begin, and where it ends.
 #[derive(Clone, Copy)]
@@ -48,16 +61,6 @@ pub struct EntryAt {
     pub next: usize,
 }
 
-// Where a part ends; `at` if it does not fit.
-fn place_or(p: Place, at: usize) -> usize
-    ensures { result ≡ place_or p at }
-{
-    match p {
-        Place::At(next) => next,
-        Place::Broken => at,
-    }
-}
-
 // The parts of the entry that begins at `at`.
 pub fn entry_at(log: &[u8], at: usize) -> EntryAt
     requires { Stands log.now at }
@@ -65,9 +68,9 @@ pub fn entry_at(log: &[u8], at: usize) -> EntryAt
 {
     let number = records::u32_or_zero(log, at);
     let start = at + 4;
-    let outcomes = place_or(spend_log::stack_end(log, start), start);
-    let ending = place_or(spend_log::outcomes_end(log, outcomes), outcomes);
-    let next = place_or(spend_log::ending_end(log, ending), ending);
+    let outcomes = spend_log::stack_end(log, start).unwrap_or(start);
+    let ending = spend_log::outcomes_end(log, outcomes).unwrap_or(outcomes);
+    let next = spend_log::ending_end(log, ending).unwrap_or(ending);
     EntryAt {
         number,
         start,
@@ -83,14 +86,12 @@ fn small_elements(log: &[u8], at: usize, n: usize) -> bool
     ensures { result ≡ all small_bytes (elements_from log.now at n) }
 {
     let mut to = at;
-    let mut i = 0;
-    while i < n {
+    for i in 0..n {
         let part = spend_log::element_at(log, to);
         if MAX_BYTES < part.len {
             return false;
         }
         to = part.next;
-        i += 1;
     }
     true
 }
@@ -101,10 +102,7 @@ fn small_stack(log: &[u8], at: usize) -> bool
     ensures { result ≡ small_stack (stack_in log.now at) }
 {
     let n = records::u32_or_zero(log, at) as usize;
-    if MAX_ELEMENTS < n {
-        return false;
-    }
-    small_elements(log, at + 4, n)
+    n <= MAX_ELEMENTS && small_elements(log, at + 4, n)
 }
 
 // Whether each digest of n outcomes that begin at `at` has at most 520 bytes.
@@ -113,15 +111,13 @@ fn small_digests(log: &[u8], at: usize, n: usize) -> bool
     ensures { result ≡ all small_outcome (outcomes_from log.now at n) }
 {
     let mut to = at;
-    let mut i = 0;
-    while i < n {
+    for i in 0..n {
         let o = spend_log::outcome_at(log, to);
         let digest = o.digest;
         if MAX_BYTES < digest.len {
             return false;
         }
         to = o.next;
-        i += 1;
     }
     true
 }
@@ -140,10 +136,7 @@ fn small_end(log: &[u8], at: usize) -> bool
     requires { end_past log.now at ≤ length log.now }
     ensures { result ≡ small_end (end_in log.now at) }
 {
-    if log[at] == ABORT {
-        return true;
-    }
-    small_stack(log, at + 1)
+    log[at] == ABORT || small_stack(log, at + 1)
 }
 
 // Whether an entry is within the limits.
@@ -166,8 +159,7 @@ fn load_elements(log: &[u8], at: usize, n: usize, main: &mut [u64])
         (reverse (elements_from log.now at n)) }
 {
     let mut to = at;
-    let mut i = 0;
-    while i < n {
+    for i in 0..n {
         let part = spend_log::element_at(log, to);
         let e = Element {
             at: part.start,
@@ -175,7 +167,6 @@ fn load_elements(log: &[u8], at: usize, n: usize, main: &mut [u64])
         };
         spend_stack::put(main, i, e);
         to = part.next;
-        i += 1;
     }
 }
 
@@ -211,8 +202,7 @@ fn same_elements(log: &[u8], main: &[u64], at: usize, n: usize) -> bool
         (reverse (elements_from log.now at n)) }
 {
     let mut to = at;
-    let mut i = 0;
-    while i < n {
+    for i in 0..n {
         let part = spend_log::element_at(log, to);
         let e = Element {
             at: part.start,
@@ -223,7 +213,6 @@ fn same_elements(log: &[u8], main: &[u64], at: usize, n: usize) -> bool
             return false;
         }
         to = part.next;
-        i += 1;
     }
     true
 }
@@ -234,10 +223,7 @@ fn same_stack(log: &[u8], main: &[u64], n: usize, at: usize) -> bool
     ensures { result ≡ same_stack (stack_of log.now main.now n) (stack_in log.now at) }
 {
     let count = records::u32_or_zero(log, at) as usize;
-    if count != n {
-        return false;
-    }
-    same_elements(log, main, at + 4, n)
+    count == n && same_elements(log, main, at + 4, n)
 }
 
 // Whether outcomes are left that no word took.
@@ -248,52 +234,51 @@ fn some_left(m: Machine) -> bool
 }
 
 // The verdict on a run that has aborted with no outcome left, against the recorded end that begins at `at`.
-fn judge_abort(log: &[u8], at: usize) -> u32
+fn judge_abort(log: &[u8], at: usize) -> Verdict
     requires { end_past log.now at ≤ length log.now }
-    ensures { result ≡ verdict_number (judged (stands aborted []) (end_in log.now at)) }
+    ensures { report_number result ≡ verdict_number (judged (stands aborted []) (end_in log.now at)) }
 {
     if log[at] == ABORT {
-        return AGREES;
+        return Verdict::Agrees;
     }
-    DIFFERS
+    Verdict::Differs
 }
 
 // The same of one that leaves n elements on its main stack.
-fn judge_stack(log: &[u8], main: &[u64], n: usize, at: usize) -> u32
+fn judge_stack(log: &[u8], main: &[u64], n: usize, at: usize) -> Verdict
     requires { (end_past log.now at ≤ length log.now) × (n ≤ 4096) × (8192 ≤ length main.now) }
-    ensures { (a : Stack) → result ≡ verdict_number (judged
+    ensures { (a : Stack) → report_number result ≡ verdict_number (judged
         (stands (state (stack_of log.now main.now n) a []) []) (end_in log.now at)) }
 {
     if log[at] == ABORT {
-        return DIFFERS;
+        return Verdict::Differs;
     }
     if same_stack(log, main, n, at + 1) {
-        return AGREES;
+        return Verdict::Agrees;
     }
-    DIFFERS
+    Verdict::Differs
 }
 
 // The verdict on a run that has ended, against the recorded end that begins at `at`.
-pub fn judge(log: &[u8], main: &[u64], m: Machine, at: usize) -> u32
+pub fn judge(log: &[u8], main: &[u64], m: Machine, at: usize) -> Verdict
     requires { Fits log.now main.now m × (end_past log.now at ≤ length log.now) }
-    ensures { (alt : List ℕ) → result ≡ verdict_number (judged (run_of log.now main.now alt m)
+    ensures { (alt : List ℕ) → report_number result ≡ verdict_number (judged (run_of log.now main.now alt m)
         (end_in log.now at)) }
 {
-    let status = m.status;
-    match status {
+    match m.status {
         Status::Going => {
             if some_left(m) {
-                return MISMATCHED;
+                return Verdict::Mismatched;
             }
             judge_stack(log, main, m.main, at)
         }
         Status::Aborted => {
             if some_left(m) {
-                return MISMATCHED;
+                return Verdict::Mismatched;
             }
             judge_abort(log, at)
         }
-        Status::Stuck => MISMATCHED,
-        Status::Large => TOO_LARGE,
+        Status::Stuck => Verdict::Mismatched,
+        Status::Large => Verdict::TooLarge,
     }
 }

@@ -3,7 +3,9 @@ use Prim.Native.Nat.{ℕ, ◌+◌, ◌≤◌, ◌<◌}
 use mathlib.Core.Bool.{Bool, true, false}
 use mathlib.Core.List.{List, [], ◌∷◌}
 use mathlib.Core.Path.{◌≡◌, refl, sym, ap, ◌∙◌}
+use lib.Dec.{eqb, eqb-suc-zero}
 use lib.ListN.{length}
+use native.Mathlib.Numerals.{add-one}
 use Rattle.contexts.specs.declared.Context.{Context}
 use Rattle.records.specs.Payloads.{key_at, first_keys, keys_from, k_in, count_in}
 use Rattle.records.proofs.Laws.{keys-first, keys-next, keys-end, length-keys}
@@ -71,13 +73,15 @@ module _ (c : Context) (t : Tables) (bytes : Bytes) (count : ℕ) where
   sigs-next true n ns s = refl
   sigs-next false n ns s = refl
 
-  pub sig-next : (first : Bool) (j : ℕ) {i : ℕ} → i ≡ key_at bytes j → j < count → (s : Run)
-      → sigs_from first (keys_from bytes count j) s
-      ≡ sigs_from false (keys_from bytes count (j + 1)) (recorded_step c t (sig_word first) (recorded_step c t (<key> i) s))
-  sig-next first j {i} e h s =
-      ap (λ (ns : List ℕ). sigs_from first ns s) (keys-next bytes count j h)
-      ∙ ap (λ (n : ℕ). sigs_from first (n ∷ keys_from bytes count (j + 1)) s) (sym e)
-      ∙ sigs-next first i (keys_from bytes count (j + 1)) s
+  pub sig-next : (j : ℕ) {i : ℕ} → i ≡ key_at bytes j → j < count → (s : Run)
+      → sigs_from (eqb j 0) (keys_from bytes count j) s
+      ≡ sigs_from (eqb (j + 1) 0) (keys_from bytes count (j + 1)) (recorded_step c t (sig_word (eqb j 0)) (recorded_step c t (<key> i) s))
+  sig-next j {i} e h s =
+      let later : eqb (j + 1) 0 ≡ false = ap (λ (n : ℕ). eqb n 0) (add-one j) ∙ eqb-suc-zero j in
+      ap (λ (ns : List ℕ). sigs_from (eqb j 0) ns s) (keys-next bytes count j h)
+      ∙ ap (λ (n : ℕ). sigs_from (eqb j 0) (n ∷ keys_from bytes count (j + 1)) s) (sym e)
+      ∙ sigs-next (eqb j 0) i (keys_from bytes count (j + 1)) s
+      ∙ ap (λ (b : Bool). sigs_from b (keys_from bytes count (j + 1)) (recorded_step c t (sig_word (eqb j 0)) (recorded_step c t (<key> i) s))) (sym later)
 
   sigs-end : (first : Bool) (s : Run) → sigs_from first [] s ≡ s
   unfolding sigs_summed sigs_added

@@ -133,6 +133,7 @@ fn run_numbered(
     ensures { Acts (plays context (tables_in log.now head) (numbered kind n)) log.now
         main.old main.new m result }
 {
+    // A kind stays a number: a record or a node holds one, and the contract answers on every number.
     match kind {
         33 => push_number(log, main, m, 1),
         34 => push_key(context, log, head, main, m, n),
@@ -162,11 +163,9 @@ fn push_keys(
         main.old main.new m result }
 {
     let mut r = m;
-    let mut j = 0;
-    while j < count {
+    for j in 0..count {
         let i = key_at(bytes, j);
         r = push_key(context, log, head, main, r, i);
-        j += 1;
     }
     r
 }
@@ -197,14 +196,10 @@ fn sum_sigs(
         main.old main.new m result }
 {
     let mut r = m;
-    let mut first = true;
-    let mut j = 0;
-    while j < count {
+    for j in 0..count {
         let i = key_at(bytes, j);
         let a = push_key(context, log, head, main, r, i);
-        r = check_next(first, log, main, a);
-        first = false;
-        j += 1;
+        r = check_next(j == 0, log, main, a);
     }
     r
 }
@@ -264,6 +259,7 @@ pub fn run_leaf(
         main.old main.new m result }
 {
     let kind = kind_of(bytes);
+    // A kind stays a number: a record or a node holds one, and the contract answers on every number.
     match kind {
         57 => run_multi(context, log, head, bytes, main, m),
         58 => run_multi_a(context, log, head, bytes, main, m),

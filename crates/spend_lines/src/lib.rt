@@ -47,12 +47,10 @@ pub fn put_lines(out: &mut [u8], reports: &[u8], from: usize, count: usize) -> u
     ensures { Shows out.old out.new (lines_of reports.now from count) result }
 {
     let mut at = 0;
-    let mut i = 0;
-    while i < count {
+    for i in 0..count {
         let number = number_in(reports, from + i);
         let verdict = verdict_in(reports, from + i);
         at = put_line(out, at, number, verdict);
-        i += 1;
     }
     at
 }

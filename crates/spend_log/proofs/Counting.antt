@@ -1,7 +1,7 @@
 -- Entries counted one by one, up to the log's end. Assumes nothing.
 use Prim.Native.Nat.{ℕ, suc, ◌+◌, ◌≤◌, ◌<◌}
 use mathlib.Core.List.{List, [], ◌∷◌}
-use mathlib.Core.Option.{Option, none, some}
+use Rattle.std.specs.Prelude.{Option, None, Some}
 use mathlib.Core.Path.{◌≡◌, refl, sym, ap, ◌∙◌}
 use native.Mathlib.Omega.{arith}
 use lib.ListN.{length, drop, length-drop}
@@ -9,27 +9,25 @@ use Rattle.spend_log.specs.Readers.{Read, give, onward, to_end}
 use Rattle.spend_machine.specs.Entries.{Entry}
 use Rattle.spend_log.specs.Logs.{entry}
 use Rattle.spend_log.specs.Places.{count_answer}
-use Rattle.spend_log.specs.declared.Counted.{Counted}
-use Rattle.spend_log.specs.declared.Counted.TheVariants as Counted
 use Rattle.spend_log.proofs.Passing.{Passes, to_end-next, to_end-broken, to_end-done, takes-less}
 use Rattle.spend_log.proofs.Parts.{takes-entry}
 
 -- so many entries, and then these
-pub more : ℕ → Counted → Counted
-more n (Counted.Entries m) = Counted.Entries (n + m)
-more n Counted.Broken = Counted.Broken
+pub more : ℕ → Option ℕ → Option ℕ
+more n (Some m) = Some (n + m)
+more n None = None
 
 -- what is counted once so many entries stand before a place
-pub counting : List ℕ → (to count : ℕ) → Counted
+pub counting : List ℕ → (to count : ℕ) → Option ℕ
 counting log to count = more count (count_answer (to_end entry (drop to log)))
 
 pub counting-none : (log : List ℕ) (at : ℕ) → counting log at 0 ≡ count_answer (to_end entry (drop at log))
 unfolding counting more
 counting-none log at = by_answer (count_answer (to_end entry (drop at log)))
   where
-    by_answer : (a : Counted) → more 0 a ≡ a
-    by_answer (Counted.Entries n) = ap Counted.Entries (omega arith)
-    by_answer Counted.Broken = refl
+    by_answer : (a : Option ℕ) → more 0 a ≡ a
+    by_answer (Some n) = ap Some (omega arith)
+    by_answer None = refl
 
 module _ (log : List ℕ) (to count : ℕ) where
   pub counting-next : {next : ℕ} → Passes 13 entry log to next → counting log to count ≡ counting log next (count + 1)
@@ -40,17 +38,17 @@ module _ (log : List ℕ) (to count : ℕ) where
     where
       by-rest : (o : Option (Read (List Entry)))
           → more count (count_answer (onward o (λ es. give (p.value ∷ es)))) ≡ more (count + 1) (count_answer o)
-      by-rest none = refl
-      by-rest (some g) = ap Counted.Entries (omega arith)
+      by-rest None = refl
+      by-rest (Some g) = ap Some (omega arith)
 
-  pub counting-broken : to < length log → entry (drop to log) ≡ none → counting log to count ≡ Counted.Broken
+  pub counting-broken : to < length log → entry (drop to log) ≡ None → counting log to count ≡ None
   unfolding counting more
   counting-broken h e =
       let l = length-drop to log in
       rw (to_end-broken entry (takes-less (omega arith) takes-entry) (drop to log) (omega arith) e)
 
-  pub counting-done : length log ≤ to → counting log to count ≡ Counted.Entries count
+  pub counting-done : length log ≤ to → counting log to count ≡ Some count
   unfolding counting more
   counting-done h =
       let l = length-drop to log in
-      rw (to_end-done entry (drop to log) (omega arith)) (ap Counted.Entries (omega arith))
+      rw (to_end-done entry (drop to log) (omega arith)) (ap Some (omega arith))

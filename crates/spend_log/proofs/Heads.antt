@@ -2,7 +2,7 @@
 use Prim.Native.Nat.{ℕ, ◌+◌, ◌-◌, ◌≤◌, ◌<◌}
 use mathlib.Core.Bool.{Bool, true, false}
 use mathlib.Core.List.{List}
-use mathlib.Core.Option.{Option, none, some}
+use Rattle.std.specs.Prelude.{Option, None, Some}
 use mathlib.Core.Path.{◌≡◌, refl, sym, ap, subst, ◌∙◌}
 use native.Mathlib.Omega.{arith}
 use borrow.Author.Tests.{leb-true, leb-false}
@@ -16,10 +16,6 @@ use Rattle.spend_log.specs.Readers.{Read, give, onward, block, number, to_end}
 use Rattle.spend_log.specs.Logs.{Head, contents, head, entry, Log, log, value_of, log_of}
 use Rattle.spend_log.specs.Places.{offsets, head_answer, head_in, Lies, count_answer}
 use Rattle.spend_log.specs.declared.Offsets.{Offsets}
-use Rattle.spend_log.specs.declared.HeadAt.{HeadAt}
-use Rattle.spend_log.specs.declared.HeadAt.TheVariants as HeadAt
-use Rattle.spend_log.specs.declared.Counted.{Counted}
-use Rattle.spend_log.specs.declared.Counted.TheVariants as Counted
 use Rattle.spend_log.proofs.Passing.{Takes, takes-give, takes-block, takes-then, takes-number, takes-any, takes_none}
 use Rattle.spend_log.proofs.Parts.{block-found, number-there}
 
@@ -45,7 +41,7 @@ takes-head =
     takes-any (takes-contents c t k kh h32 h20)
 
 module _ (s : List ℕ) where
-  pub head-short : length s < 24 → HeadAt.Broken ≡ head_answer (head s)
+  pub head-short : length s < 24 → None ≡ head_answer (head s)
   head-short h = sym (ap head_answer (takes_none takes-head s h))
 
   module _ (long : 24 ≤ length s) where
@@ -61,7 +57,7 @@ module _ (s : List ℕ) where
           number-there s 20 (omega arith),
         )
 
-    pub head-cut : length s < 24 + u32 s 4 + u32 s 8 + u32 s 12 + u32 s 16 + u32 s 20 → HeadAt.Broken ≡ head_answer (head s)
+    pub head-cut : length s < 24 + u32 s 4 + u32 s 8 + u32 s 12 + u32 s 16 + u32 s 20 → None ≡ head_answer (head s)
     head-cut h =
         let l : length (drop 24 s) ≡ length s - 24 = length-drop 24 s in
         sym (ap head_answer (head-numbers
@@ -69,7 +65,7 @@ module _ (s : List ℕ) where
 
 -- a head that fits, by the numbers in front
 module _ (s : List ℕ) (c t k kh h32 h20 : ℕ) (fits : 24 + t + k + kh + h32 + h20 ≤ length s) where
-  contents-whole : contents c t k kh h32 h20 (drop 24 s) ≡ some (record {
+  contents-whole : contents c t k kh h32 h20 (drop 24 s) ≡ Some (record {
     value = record {
       context = c;
       tree = take t (drop 24 s);
@@ -95,7 +91,7 @@ module _ (s : List ℕ) (c t k kh h32 h20 : ℕ) (fits : 24 + t + k + kh + h32 +
       length-take-le n (drop at s) (omega arith)
 
   pub head-whole : c ≡ u32 s 0 → t ≡ u32 s 4 → k ≡ u32 s 8 → kh ≡ u32 s 12 → h32 ≡ u32 s 16 → h20 ≡ u32 s 20
-      → HeadAt.Whole (record {
+      → Some (record {
         context = c;
         keys = 24 + t;
         key_hashes = 24 + t + k;
@@ -119,7 +115,7 @@ module _ (s : List ℕ) (c t k kh h32 h20 : ℕ) (fits : 24 + t + k + kh + h32 +
 
 -- ---- a head that was answered
 
-whole_same : {a b : Offsets} → HeadAt.Whole a ≡ HeadAt.Whole b → a ≡ b
+whole_same : {a b : Offsets} → Some a ≡ Some b → a ≡ b
 whole_same e = cc
 
 module _ (s : List ℕ) (t k kh h32 h20 : ℕ) (fits : 24 + t + k + kh + h32 + h20 ≤ length s) where
@@ -152,12 +148,12 @@ module _ (s : List ℕ) (t k kh h32 h20 : ℕ) (fits : 24 + t + k + kh + h32 + h
         within = fits;
       }
 
-pub head-told : (s : List ℕ) {a : HeadAt} {h : Offsets} → a ≡ head_answer (head s) → a ≡ HeadAt.Whole h → Lies s h
+pub head-told : (s : List ℕ) {a : Option Offsets} {h : Offsets} → a ≡ head_answer (head s) → a ≡ Some h → Lies s h
 head-told s {a} {h} e m = by_length (leb 24 (length s)) refl
   where
-    never : {A : Type 0} → HeadAt.Broken ≡ head_answer (head s) → A
+    never : {A : Type 0} → None ≡ head_answer (head s) → A
     never b =
-        let z : HeadAt.Broken ≡ HeadAt.Whole h = b ∙ sym e ∙ m in
+        let z : None ≡ Some h = b ∙ sym e ∙ m in
         absurd (let y : ◌≡◌ {A = ℕ} 0 1 = cc in omega arith)
 
     by-fit : 24 ≤ length s → (f : Bool) → leb (24 + u32 s 4 + u32 s 8 + u32 s 12 + u32 s 16 + u32 s 20) (length s) ≡ f → Lies s h
@@ -173,14 +169,14 @@ head-told s {a} {h} e m = by_length (leb 24 (length s)) refl
     by_length false l = never (head-short s (leb-false 24 (length s) l))
 
 -- a head that is broken, and a log whose head is
-pub head-told-broken : (s : List ℕ) {a : HeadAt} → a ≡ head_answer (head s) → a ≡ HeadAt.Broken → log_of s ≡ none
+pub head-told-broken : (s : List ℕ) {a : Option Offsets} → a ≡ head_answer (head s) → a ≡ None → log_of s ≡ None
 unfolding log
 head-told-broken s {a} e m = by-head (head s) refl
   where
-    by-head : (o : Option (Read Head)) → head s ≡ o → log_of s ≡ none
-    by-head none k = rw k
-    by-head (some g) k =
-        let z : HeadAt.Whole (offsets g.value) ≡ HeadAt.Broken = sym (ap head_answer k) ∙ sym e ∙ m in
+    by-head : (o : Option (Read Head)) → head s ≡ o → log_of s ≡ None
+    by-head None k = rw k
+    by-head (Some g) k =
+        let z : Some (offsets g.value) ≡ None = sym (ap head_answer k) ∙ sym e ∙ m in
         absurd (let y : ◌≡◌ {A = ℕ} 0 1 = cc in omega arith)
 
 -- ---- the entries behind it
@@ -188,14 +184,14 @@ head-told-broken s {a} e m = by-head (head s) refl
 -- from here on entries stand up to the end of the log
 pub record Entries (s : List ℕ) (at : ℕ) (es : List Entry) : Type 0 where
   pub last : List ℕ
-  pub reads : to_end entry (drop at s) ≡ some (record { value = es; behind = last })
+  pub reads : to_end entry (drop at s) ≡ Some (record { value = es; behind = last })
 
 -- the log that lies there, and its entries, so many
 pub record EntriesAt (s : List ℕ) (h : Offsets) (n : ℕ) : Type 0 where
   pub those : List Entry
   pub stand : Entries s h.entries those
   pub count : n ≡ length those
-  pub is-log : log_of s ≡ some (record { front = head_in s h; entries = those })
+  pub is-log : log_of s ≡ Some (record { front = head_in s h; entries = those })
 
 module _ (s : List ℕ) (h : Offsets) (lies : Lies s h) where
   log_with : Option (Read (List Entry)) → Option Log
@@ -205,25 +201,25 @@ module _ (s : List ℕ) (h : Offsets) (lies : Lies s h) where
   unfolding log log_with
   log_is = rw lies.reads
 
-  with-some : (g : Read (List Entry)) → to_end entry (drop h.entries s) ≡ some g
-      → log_with (to_end entry (drop h.entries s)) ≡ some (record { front = head_in s h; entries = g.value })
+  with-some : (g : Read (List Entry)) → to_end entry (drop h.entries s) ≡ Some g
+      → log_with (to_end entry (drop h.entries s)) ≡ Some (record { front = head_in s h; entries = g.value })
   unfolding log_with
   with-some g k = rw k
 
-  with_none : to_end entry (drop h.entries s) ≡ none → log_with (to_end entry (drop h.entries s)) ≡ none
+  with_none : to_end entry (drop h.entries s) ≡ None → log_with (to_end entry (drop h.entries s)) ≡ None
   unfolding log_with
   with_none k = rw k
 
-  pub entries-told : {a : Counted} {n : ℕ} → a ≡ count_answer (to_end entry (drop h.entries s)) → a ≡ Counted.Entries n
+  pub entries-told : {a : Option ℕ} {n : ℕ} → a ≡ count_answer (to_end entry (drop h.entries s)) → a ≡ Some n
       → EntriesAt s h n
   entries-told {a} {n} e m = by_entries (to_end entry (drop h.entries s)) refl
     where
       by_entries : (o : Option (Read (List Entry))) → to_end entry (drop h.entries s) ≡ o → EntriesAt s h n
-      by_entries none k =
-          let z : Counted.Broken ≡ Counted.Entries n = sym (ap count_answer k) ∙ sym e ∙ m in
+      by_entries None k =
+          let z : None ≡ Some n = sym (ap count_answer k) ∙ sym e ∙ m in
           absurd (let y : ◌≡◌ {A = ℕ} 0 1 = cc in omega arith)
-      by_entries (some g) k =
-          let z : Counted.Entries (length g.value) ≡ Counted.Entries n = sym (ap count_answer k) ∙ sym e ∙ m in
+      by_entries (Some g) k =
+          let z : Some (length g.value) ≡ Some n = sym (ap count_answer k) ∙ sym e ∙ m in
           record {
             those = g.value;
             stand = record { last = g.behind; reads = k };
@@ -231,11 +227,11 @@ module _ (s : List ℕ) (h : Offsets) (lies : Lies s h) where
             is-log = log_is ∙ with-some g k;
           }
 
-  pub entries-told-broken : {a : Counted} → a ≡ count_answer (to_end entry (drop h.entries s)) → a ≡ Counted.Broken → log_of s ≡ none
+  pub entries-told-broken : {a : Option ℕ} → a ≡ count_answer (to_end entry (drop h.entries s)) → a ≡ None → log_of s ≡ None
   entries-told-broken {a} e m = by_entries (to_end entry (drop h.entries s)) refl
     where
-      by_entries : (o : Option (Read (List Entry))) → to_end entry (drop h.entries s) ≡ o → log_of s ≡ none
-      by_entries none k = log_is ∙ with_none k
-      by_entries (some g) k =
-          let z : Counted.Entries (length g.value) ≡ Counted.Broken = sym (ap count_answer k) ∙ sym e ∙ m in
+      by_entries : (o : Option (Read (List Entry))) → to_end entry (drop h.entries s) ≡ o → log_of s ≡ None
+      by_entries None k = log_is ∙ with_none k
+      by_entries (Some g) k =
+          let z : Some (length g.value) ≡ None = sym (ap count_answer k) ∙ sym e ∙ m in
           absurd (let y : ◌≡◌ {A = ℕ} 0 1 = cc in omega arith)

@@ -2,7 +2,7 @@
 use Prim.Native.Nat.{ℕ, zero, suc, ◌+◌, ◌-◌, ◌≤◌, ◌<◌}
 use mathlib.Core.Bool.{true, false, cond}
 use mathlib.Core.List.{List, [], ◌∷◌, ◌++◌, reverse, reverse-reverse, append_assoc}
-use mathlib.Core.Option.{Option, none, some}
+use Rattle.std.specs.Prelude.{Option, None, Some}
 use mathlib.Core.Path.{◌≡◌, refl, ap, subst, ◌∙◌}
 use native.Mathlib.Omega.{arith}
 use borrow.Author.Tests.{le-leb}
@@ -24,7 +24,7 @@ use Rattle.spend_log.proofs.Parts.{takes-entry}
 
 -- A reader reads a value off these bytes, and leaves what follows them.
 pub record Spells {A : Type 0} (r : Reader A) (w : List ℕ) (x : A) : Type 0 where
-  pub reads : (s : List ℕ) → r (w ++ s) ≡ some (record { value = x; behind = s })
+  pub reads : (s : List ℕ) → r (w ++ s) ≡ Some (record { value = x; behind = s })
 
 spells-give : {A : Type 0} (x : A) → Spells (give x) [] x
 spells-give x = record { reads = λ s. refl }
@@ -76,7 +76,7 @@ module _ {A : Type 0} (r : Reader A) (write : A → Bytes) (P : A → Type 0) (s
       (spells-number (length xs) h.0) (spells-several xs h.1)
 
   -- up to the end
-  read_all : Takes 1 r → (xs : List A) → All P xs → to_end r (several_bytes write xs) ≡ some (record { value = xs; behind = [] })
+  read_all : Takes 1 r → (xs : List A) → All P xs → to_end r (several_bytes write xs) ≡ Some (record { value = xs; behind = [] })
   unfolding several_bytes All
   read_all t [] h = to_end-done r [] refl
   read_all t (x ∷ xs) h =

@@ -1,6 +1,5 @@
 -- What a log of recorded spends is: document 02, R-6, in the byte form of docs/ENTRIES.md. All numbers are u32.
-use Rattle.std.specs.Prelude.{ℕ, cond, List, reverse, eqb}
-use Rattle.std.proofs.Math.Option.{Option, none, some}
+use Rattle.std.specs.Prelude.{ℕ, cond, List, reverse, eqb, Option, None, Some}
 use Rattle.spend_log.specs.Readers.{Read, Reader, give, broken, ◌>>=◌, block, byte, number, counted, to_end}
 use Rattle.script_machine.specs.Numbers.{Bytes, Stack}
 use Rattle.script_bytes.specs.Tables.{Tables, tables}
@@ -90,8 +89,8 @@ log = do
   give (record { front = h; entries = es })
 
 abbrev pub value_of : {A : Type 0} → Option (Read A) → Option A
-value_of none = none
-value_of (some r) = some r.value
+value_of None = None
+value_of (Some r) = Some r.value
 
 -- The log that some bytes are; any other bytes are broken.
 abbrev pub log_of : Bytes → Option Log

@@ -1,29 +1,22 @@
 -- Where the parts of a log lie in its bytes: what the readers of this crate answer, by the definitions of Readers.antt and Logs.antt.
-use Rattle.std.specs.Prelude.{ℕ, ◌+◌, ◌-◌, ◌≤◌, cond, List, eqb, ◌≡◌, length, get_or, take, drop}
-use Rattle.std.proofs.Math.Option.{Option, none, some}
+use Rattle.std.specs.Prelude.{ℕ, ◌+◌, ◌-◌, ◌≤◌, cond, List, eqb, ◌≡◌, length, get_or, take, drop, Option, None, Some}
 use Rattle.records.specs.Numbers.{u32}
 use Rattle.script_machine.specs.Numbers.{Bytes}
 use Rattle.script_bytes.specs.Tables.{Tables, tables}
 use Rattle.spend_log.specs.Readers.{Read, Reader}
 use Rattle.spend_log.specs.Logs.{Head, head}
 use Rattle.spend_machine.specs.Entries.{Entry}
-use Rattle.spend_log.specs.declared.Place.{Place}
-use Rattle.spend_log.specs.declared.Place.TheVariants as Place
 use Rattle.spend_log.specs.declared.Part.{Part}
 use Rattle.spend_log.specs.declared.OutcomeAt.{OutcomeAt}
 use Rattle.spend_log.specs.declared.Offsets.{Offsets}
-use Rattle.spend_log.specs.declared.HeadAt.{HeadAt}
-use Rattle.spend_log.specs.declared.HeadAt.TheVariants as HeadAt
-use Rattle.spend_log.specs.declared.Counted.{Counted}
-use Rattle.spend_log.specs.declared.Counted.TheVariants as Counted
 
 -- of so many bytes, those behind what was read begin here
-abbrev pub behind_at : {A : Type 0} → ℕ → Option (Read A) → Place
-behind_at total none = Place.Broken
-behind_at total (some r) = Place.At (total - length r.behind)
+abbrev pub behind_at : {A : Type 0} → ℕ → Option (Read A) → Option ℕ
+behind_at total None = None
+behind_at total (Some r) = Some (total - length r.behind)
 
 -- where what a reader reads at a place of a log ends
-unfoldable pub place_of : {A : Type 0} → Reader A → List ℕ → ℕ → Place
+unfoldable pub place_of : {A : Type 0} → Reader A → List ℕ → ℕ → Option ℕ
 place_of r log at = behind_at (length log) (r (drop at log))
 
 -- an element that begins at a place: where its bytes begin, how many they are, and where they end
@@ -55,9 +48,9 @@ offsets h =
       entries = hashes20 + length h.tables.hashes20;
     }
 
-abbrev pub head_answer : Option (Read Head) → HeadAt
-head_answer none = HeadAt.Broken
-head_answer (some r) = HeadAt.Whole (offsets r.value)
+abbrev pub head_answer : Option (Read Head) → Option Offsets
+head_answer None = None
+head_answer (Some r) = Some (offsets r.value)
 
 -- the bytes from one place up to another; the tree, the tables and the head that lie at such places
 abbrev pub part_in : Bytes → (from to : ℕ) → Bytes
@@ -76,7 +69,7 @@ head_in log h = record { context = h.context; tree = tree_in log h; tables = tab
 
 -- A log's head lies at these places, one behind the other.
 pub record Lies (log : Bytes) (h : Offsets) : Type 0 where
-  pub reads : head log ≡ some (record { value = head_in log h; behind = drop h.entries log })
+  pub reads : head log ≡ Some (record { value = head_in log h; behind = drop h.entries log })
   pub keys : 24 ≤ h.keys
   pub key-hashes : h.keys ≤ h.key_hashes
   pub hashes32 : h.key_hashes ≤ h.hashes32
@@ -85,6 +78,6 @@ pub record Lies (log : Bytes) (h : Offsets) : Type 0 where
   pub within : h.entries ≤ length log
 
 -- how many entries were read
-abbrev pub count_answer : Option (Read (List Entry)) → Counted
-count_answer none = Counted.Broken
-count_answer (some r) = Counted.Entries (length r.value)
+abbrev pub count_answer : Option (Read (List Entry)) → Option ℕ
+count_answer None = None
+count_answer (Some r) = Some (length r.value)

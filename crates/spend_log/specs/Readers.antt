@@ -1,6 +1,5 @@
 -- How values are read off the front of some bytes: a reader gives a value and the bytes behind it, or nothing where it does not fit.
-use Rattle.std.specs.Prelude.{ℕ, zero, suc, cond, List, [], ◌∷◌, leb, length, take, drop}
-use Rattle.std.proofs.Math.Option.{Option, none, some}
+use Rattle.std.specs.Prelude.{ℕ, zero, suc, cond, List, [], ◌∷◌, leb, length, take, drop, Option, None, Some}
 use Rattle.words.specs.Bytes.{little}
 
 pub record Read (A : Type 0) : Type 0 where
@@ -12,16 +11,16 @@ Reader A = List ℕ → Option (Read A)
 
 -- reads nothing, and gives a value
 abbrev pub give : {A : Type 0} → A → Reader A
-give x s = some (record { value = x; behind = s })
+give x s = Some (record { value = x; behind = s })
 
 -- does not fit
 abbrev pub broken : {A : Type 0} → Reader A
-broken s = none
+broken s = None
 
 -- one reader, and behind what it read the next one
 abbrev pub onward : {A B : Type 0} → Option (Read A) → (A → Reader B) → Option (Read B)
-onward none next = none
-onward (some r) next = next r.value r.behind
+onward None next = None
+onward (Some r) next = next r.value r.behind
 
 infixl 20 ◌>>=◌
 abbrev pub ◌>>=◌ : {A B : Type 0} → Reader A → (A → Reader B) → Reader B
@@ -29,12 +28,12 @@ abbrev pub ◌>>=◌ : {A B : Type 0} → Reader A → (A → Reader B) → Read
 
 -- so many bytes
 unfoldable pub block : ℕ → Reader (List ℕ)
-block n s = cond (leb n (length s)) (some (record { value = take n s; behind = drop n s })) none
+block n s = cond (leb n (length s)) (Some (record { value = take n s; behind = drop n s })) None
 
 -- one byte
 unfoldable pub byte : Reader ℕ
-byte [] = none
-byte (b ∷ s) = some (record { value = b; behind = s })
+byte [] = None
+byte (b ∷ s) = Some (record { value = b; behind = s })
 
 -- a u32, little-endian
 unfoldable pub number : Reader ℕ

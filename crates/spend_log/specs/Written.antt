@@ -1,6 +1,5 @@
 -- How a log is written, in the byte form of docs/ENTRIES.md, and that what is written is read back: document 02, R-6.
-use Rattle.std.specs.Prelude.{ℕ, ◌<◌, ◌^◌, List, [], ◌∷◌, ◌++◌, reverse, ◌≡◌, length}
-use Rattle.std.proofs.Math.Option.{some}
+use Rattle.std.specs.Prelude.{ℕ, ◌<◌, ◌^◌, List, [], ◌∷◌, ◌++◌, reverse, ◌≡◌, length, Some}
 use Rattle.words.specs.Bytes.{bytes_of}
 use Rattle.script_machine.specs.Numbers.{Bytes, Stack}
 use Rattle.spend_machine.specs.Entries.{Outcome, no, yes, digest, End, aborts, leaves, Entry}
@@ -96,10 +95,10 @@ pub record ShortHead (h : Head) : Type 0 where
 -- ---- what is written is read back
 
 abbrev pub ReadBack : Type 0
-ReadBack = (l : Log) → ShortHead l.front → All ShortEntry l.entries → log_of (log_bytes l) ≡ some l
+ReadBack = (l : Log) → ShortHead l.front → All ShortEntry l.entries → log_of (log_bytes l) ≡ Some l
 
 -- An entry is a block of bytes of its own: the same head before blocks in any other order, or before any others, is the log of these entries.
 abbrev pub BlocksAreEntries : Type 0
 BlocksAreEntries =
     (h : Head) (es : List Entry) → ShortHead h → All ShortEntry es
-    → log_of (head_bytes h ++ several_bytes entry_bytes es) ≡ some (record { front = h; entries = es })
+    → log_of (head_bytes h ++ several_bytes entry_bytes es) ≡ Some (record { front = h; entries = es })

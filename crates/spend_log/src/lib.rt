@@ -9,8 +9,6 @@ ghost use Rattle.spend_log.specs.Readers.{several, counted, to_end};
 ghost use Rattle.spend_log.specs.Logs.{element, elements, outcome, ending, entry, head};
 ghost use Rattle.spend_log.specs.Places.{place_of, element_at, outcome_at, head_answer, count_answer};
 
-use words::Read32;
-
 // The bytes of a head's numbers: the tree begins behind them.
 pub const TREE: usize = 24;
 
@@ -24,13 +22,6 @@ const NO: u8 = 0;
 const YES: u8 = 1;
 
 const DIGEST: u8 = 2;
-
-// Where a part of a log ends, or that it does not fit.
-#[derive(Clone, Copy)]
-pub enum Place {
-    At(usize),
-    Broken,
-}
 
 // Some bytes of a log: where they begin, how many they are, and where they end.
 #[derive(Clone, Copy)]
@@ -59,20 +50,6 @@ pub struct Offsets {
     pub entries: usize,
 }
 
-// What stands before the entries, or that it does not fit.
-#[derive(Clone, Copy)]
-pub enum HeadAt {
-    Whole(Offsets),
-    Broken,
-}
-
-// How many entries there are, or that one is broken.
-#[derive(Clone, Copy)]
-pub enum Counted {
-    Entries(usize),
-    Broken,
-}
-
 // The element that begins at `at`.
 pub fn element_at(log: &[u8], at: usize) -> Part
     requires { at ≤ length log.now }
@@ -88,63 +65,52 @@ pub fn element_at(log: &[u8], at: usize) -> Part
 }
 
 // Where the element that begins at `at` ends.
-pub fn element_end(log: &[u8], at: usize) -> Place
+pub fn element_end(log: &[u8], at: usize) -> Option<usize>
     requires { at ≤ length log.now }
     ensures { result ≡ place_of element log.now at }
 {
-    match words::u32_at(log, at) {
-        Read32::Found(len) => {
-            let next = at + 4 + len as usize;
-            if next <= log.len() {
-                return Place::At(next);
-            }
-            Place::Broken
-        }
-        Read32::Missing => Place::Broken,
+    let len = words::u32_at(log, at)?;
+    let next = at + 4 + len as usize;
+    if next <= log.len() {
+        return Some(next);
     }
+    None
 }
 
 // Where n elements that begin at `at` end.
-fn elements_end(log: &[u8], at: usize, n: u32) -> Place
+fn elements_end(log: &[u8], at: usize, n: u32) -> Option<usize>
     requires { at ≤ length log.now }
     ensures { result ≡ place_of (several element n) log.now at }
 {
     let mut to = at;
-    let mut i = 0;
-    while i < n {
-        let Place::At(next) = element_end(log, to) else {
-            return Place::Broken;
-        };
-        to = next;
-        i += 1;
+    for i in 0..n {
+        to = element_end(log, to)?;
     }
-    Place::At(to)
+    Some(to)
 }
 
 // Where the stack that begins at `at` ends.
-pub fn stack_end(log: &[u8], at: usize) -> Place
+pub fn stack_end(log: &[u8], at: usize) -> Option<usize>
     requires { at ≤ length log.now }
     ensures { result ≡ place_of elements log.now at }
 {
-    match words::u32_at(log, at) {
-        Read32::Found(n) => elements_end(log, at + 4, n),
-        Read32::Missing => Place::Broken,
-    }
+    let n = words::u32_at(log, at)?;
+    elements_end(log, at + 4, n)
 }
 
 // Where the outcome that begins at `at` ends.
-pub fn outcome_end(log: &[u8], at: usize) -> Place
+pub fn outcome_end(log: &[u8], at: usize) -> Option<usize>
     requires { at ≤ length log.now }
     ensures { result ≡ place_of outcome log.now at }
 {
     if log.len() <= at {
-        return Place::Broken;
+        return None;
     }
     match log[at] {
-        NO => Place::At(at + 1),
-        YES => Place::At(at + 1),
+        NO => Some(at + 1),
+        YES => Some(at + 1),
         DIGEST => element_end(log, at + 1),
-        _ => Place::Broken,
+        _ => None,
     }
 }
 
@@ -175,88 +141,75 @@ pub fn outcome_at(log: &[u8], at: usize) -> OutcomeAt
 }
 
 // Where n outcomes that begin at `at` end.
-fn several_outcomes_end(log: &[u8], at: usize, n: u32) -> Place
+fn several_outcomes_end(log: &[u8], at: usize, n: u32) -> Option<usize>
     requires { at ≤ length log.now }
     ensures { result ≡ place_of (several outcome n) log.now at }
 {
     let mut to = at;
-    let mut i = 0;
-    while i < n {
-        let Place::At(next) = outcome_end(log, to) else {
-            return Place::Broken;
-        };
-        to = next;
-        i += 1;
+    for i in 0..n {
+        to = outcome_end(log, to)?;
     }
-    Place::At(to)
+    Some(to)
 }
 
 // Where the count of outcomes that begins at `at`, and these, end.
-pub fn outcomes_end(log: &[u8], at: usize) -> Place
+pub fn outcomes_end(log: &[u8], at: usize) -> Option<usize>
     requires { at ≤ length log.now }
     ensures { result ≡ place_of (counted outcome) log.now at }
 {
-    match words::u32_at(log, at) {
-        Read32::Found(n) => several_outcomes_end(log, at + 4, n),
-        Read32::Missing => Place::Broken,
-    }
+    let n = words::u32_at(log, at)?;
+    several_outcomes_end(log, at + 4, n)
 }
 
 // Where the recorded end that begins at `at` ends.
-pub fn ending_end(log: &[u8], at: usize) -> Place
+pub fn ending_end(log: &[u8], at: usize) -> Option<usize>
     requires { at ≤ length log.now }
     ensures { result ≡ place_of ending log.now at }
 {
     if log.len() <= at {
-        return Place::Broken;
+        return None;
     }
     match log[at] {
-        ABORT => Place::At(at + 1),
+        ABORT => Some(at + 1),
         STACK => stack_end(log, at + 1),
-        _ => Place::Broken,
+        _ => None,
     }
 }
 
 // Where the entry that begins at `at` ends.
-pub fn entry_end(log: &[u8], at: usize) -> Place
+pub fn entry_end(log: &[u8], at: usize) -> Option<usize>
     requires { at ≤ length log.now }
     ensures { result ≡ place_of entry log.now at }
 {
     if log.len() - at < 4 {
-        return Place::Broken;
+        return None;
     }
-    let Place::At(outcomes) = stack_end(log, at + 4) else {
-        return Place::Broken;
-    };
-    let Place::At(end) = outcomes_end(log, outcomes) else {
-        return Place::Broken;
-    };
+    let outcomes = stack_end(log, at + 4)?;
+    let end = outcomes_end(log, outcomes)?;
     ending_end(log, end)
 }
 
 // How many entries there are from `at` up to the log's end.
-pub fn count_entries(log: &[u8], at: usize) -> Counted
+pub fn count_entries(log: &[u8], at: usize) -> Option<usize>
     requires { at ≤ length log.now }
     ensures { result ≡ count_answer (to_end entry (drop at log.now)) }
 {
     let mut to = at;
     let mut count = 0;
+    // Entries are of unequal length.
     while to < log.len() {
-        let Place::At(next) = entry_end(log, to) else {
-            return Counted::Broken;
-        };
-        to = next;
+        to = entry_end(log, to)?;
         count += 1;
     }
-    Counted::Entries(count)
+    Some(count)
 }
 
 // The context of a log, and where its tables and its entries begin.
-pub fn head_of(log: &[u8]) -> HeadAt
+pub fn head_of(log: &[u8]) -> Option<Offsets>
     ensures { result ≡ head_answer (head log.now) }
 {
     if log.len() < TREE {
-        return HeadAt::Broken;
+        return None;
     }
     let keys = TREE + records::u32_or_zero(log, 4) as usize;
     let key_hashes = keys + records::u32_or_zero(log, 8) as usize;
@@ -264,9 +217,9 @@ pub fn head_of(log: &[u8]) -> HeadAt
     let hashes20 = hashes32 + records::u32_or_zero(log, 16) as usize;
     let entries = hashes20 + records::u32_or_zero(log, 20) as usize;
     if log.len() < entries {
-        return HeadAt::Broken;
+        return None;
     }
-    HeadAt::Whole(Offsets {
+    Some(Offsets {
         context: records::u32_or_zero(log, 0),
         keys,
         key_hashes,

@@ -2,7 +2,7 @@
 use Prim.Native.Nat.{ℕ, zero, suc}
 use mathlib.Core.Bool.{Bool, true, false, not, ◌&&◌, cond}
 use mathlib.Core.List.{List, [], ◌∷◌, ◌++◌, append-nil, append_assoc}
-use mathlib.Core.Option.{some}
+use Rattle.std.specs.Prelude.{Some}
 use mathlib.Core.Path.{◌≡◌, refl, sym, ◌∙◌}
 use lib.Dec.{T, leb, eqb, eqb_refl}
 use lib.IntN.{ℤ, pos, negsuc}
@@ -141,7 +141,7 @@ module _ (c : Context) (t : Tables) (o : Outcomes) where
   asks-as-fixed : (q : Question) (w : Word) (g : Outcome → Action) (h : Action)
       → ((r : Outcome) → effect c (believing c t r) w ≡ works (g r)) → effect c (with_tables c t o) w ≡ works h
       → (m a : Stack) (cs : List Bool) (rs : List Outcome) → Reach q (given o q m) (g yes m a) (h m a) (g (given o q m) m a)
-      → questioned c t (some q) w m a cs (asked_by c t o (some q) w m a cs ++ rs) ≡ within (fixed_step c t o w m a cs) rs
+      → questioned c t (Some q) w m a cs (asked_by c t o (Some q) w m a cs ++ rs) ≡ within (fixed_step c t o w m a cs) rs
   unfolding step
   asks-as-fixed q w g h e d m a cs rs p = rw (e yes, d) (go (all_true cs) refl p refl)
     where

@@ -3,7 +3,7 @@ use Prim.Native.Nat.{ℕ, ◌+◌, ◌≤◌}
 use native.Mathlib.Omega.{arith}
 use mathlib.Core.Bool.{Bool, true, false, not, ◌&&◌, cond, false≢true}
 use mathlib.Core.List.{List, [], ◌∷◌, ◌++◌, map, append_assoc}
-use mathlib.Core.Option.{Option, none, some}
+use Rattle.std.specs.Prelude.{Option, None, Some}
 use mathlib.Core.Path.{◌≡◌, refl, sym, ◌∙◌, ap}
 use borrow.Author.Tests.{le-leb, leb-true}
 use lib.Dec.{leb}
@@ -112,17 +112,17 @@ module _ (c : Context) (t : Tables) where
 
     steps : (q : Option Question) (m a : Stack) (cs : List Bool) (rs : List Outcome) → all_true cs ≡ true
         → questioned c t q w m a cs rs ≡ under_conds cs (questioned c t q w m a [] rs)
-    steps none m a cs rs h = rw (step-under yes m a cs h, step-under yes m a [] refl) (left-under cs (g yes m a) rs)
-    steps (some q) m a cs rs h = rw (h, step-under yes m a cs h, step-under yes m a [] refl) (asked q m a cs rs (g yes m a) h)
+    steps None m a cs rs h = rw (step-under yes m a cs h, step-under yes m a [] refl) (left-under cs (g yes m a) rs)
+    steps (Some q) m a cs rs h = rw (h, step-under yes m a cs h, step-under yes m a [] refl) (asked q m a cs rs (g yes m a) h)
 
     steps-plain : (q : Option Question) (m a : Stack) (rs : List Outcome) → Plain (questioned c t q w m a [] rs)
-    steps-plain none m a rs = rw (step-under yes m a [] refl) (left-plain (g yes m a) rs)
-    steps-plain (some q) m a rs = rw (step-under yes m a [] refl) (asked-plain q m a rs (g yes m a))
+    steps-plain None m a rs = rw (step-under yes m a [] refl) (left-plain (g yes m a) rs)
+    steps-plain (Some q) m a rs = rw (step-under yes m a [] refl) (asked-plain q m a rs (g yes m a))
 
     steps-skipped : (q : Option Question) (m a : Stack) (cs : List Bool) (rs : List Outcome) → length m + length a ≤ 4096 → all_true cs ≡ false
         → questioned c t q w m a cs rs ≡ stands (state m a cs) rs
-    steps-skipped none m a cs rs l h = rw (step-skipped yes m a cs h) (few-fits m a cs rs l)
-    steps-skipped (some q) m a cs rs l h = rw h (few-fits m a cs rs l)
+    steps-skipped None m a cs rs l h = rw (step-skipped yes m a cs h) (few-fits m a cs rs l)
+    steps-skipped (Some q) m a cs rs l h = rw h (few-fits m a cs rs l)
 
     pub word : Plays (w ∷ []) (recorded_step c t w)
     unfolding recorded_run recorded_step
@@ -210,7 +210,7 @@ module _ (c : Context) (t : Tables) where
 
   -- IF and NOTIF
   module _ (w : Word) (holds : Bytes → Bool) (test : Run → Bool) (e : (r : Outcome) → effect c (believing c t r) w ≡ opens (may_branch c) holds)
-      (d : asks w ≡ none) (k : (x : Bytes) (m a : Stack) (cs : List Bool) (rs : List Outcome) → test (stands (state (x ∷ m) a cs) rs) ≡ holds x) where
+      (d : asks w ≡ None) (k : (x : Bytes) (m a : Stack) (cs : List Bool) (rs : List Outcome) → test (stands (state (x ∷ m) a cs) rs) ≡ holds x) where
     starts : (ws : List Word) (m a : Stack) (cs : List Bool) (rs : List Outcome)
         → recorded_run c t (w ∷ ws) (stands (state m a cs) rs) ≡ recorded_run c t ws (within (step (opens (may_branch c) holds) m a cs) rs)
     unfolding recorded_run recorded_step

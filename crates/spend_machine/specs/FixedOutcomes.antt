@@ -1,7 +1,6 @@
 -- Recorded outcomes that fixed outcomes would give: their run is the one that demand 3 speaks of. Document 02, R-6, and document 01, "What a
 -- fragment's script does" (a signature outcome is fixed by keys and signatures, a hash by its kind and input, a time check by its kind and number).
-use Rattle.std.specs.Prelude.{ℕ, Bool, true, false, ◌&&◌, cond, List, [], ◌∷◌, ◌++◌, ◌≡◌, ℤ, pos, negsuc, take, drop}
-use Rattle.std.proofs.Math.Option.{Option, none, some}
+use Rattle.std.specs.Prelude.{ℕ, Bool, true, false, ◌&&◌, cond, List, [], ◌∷◌, ◌++◌, ◌≡◌, ℤ, pos, negsuc, take, drop, Option, None, Some}
 use Rattle.contexts.specs.declared.Context.{Context}
 use Rattle.trees.specs.Fragment.{Fragment}
 use Rattle.script_machine.specs.Numbers.{Bytes, Stack, read}
@@ -61,8 +60,8 @@ module _ (c : Context) (t : Tables) (o : Outcomes) where
   unless_aborted (state m a cs) rs = rs
 
   abbrev pub asked_by : Option Question → Word → Stack → Stack → List Bool → List Outcome
-  asked_by none w m a cs = []
-  asked_by (some q) w m a cs = cond (all_true cs) (unless_aborted (step (effect c (believing c t yes) w) m a cs) (given o q m ∷ [])) []
+  asked_by None w m a cs = []
+  asked_by (Some q) w m a cs = cond (all_true cs) (unless_aborted (step (effect c (believing c t yes) w) m a cs) (given o q m ∷ [])) []
 
   -- The outcomes that a run asks for, in order.
   unfoldable pub asked : List Word → State → List Outcome

@@ -1,6 +1,5 @@
 -- A run with recorded outcomes, from document 02, R-6: document 01's machine, where each word that asks takes the next outcome of a list.
-use Rattle.std.specs.Prelude.{ℕ, ◌+◌, Bool, true, false, not, cond, List, [], ◌∷◌, leb, length}
-use Rattle.std.proofs.Math.Option.{Option, none, some}
+use Rattle.std.specs.Prelude.{ℕ, ◌+◌, Bool, true, false, not, cond, List, [], ◌∷◌, leb, length, Option, None, Some}
 use Rattle.contexts.specs.Leaves.{LockKind, After, Older, HashKind}
 use Rattle.contexts.specs.declared.Context.{Context}
 use Rattle.script_machine.specs.Numbers.{Bytes, Stack}
@@ -19,37 +18,37 @@ pub data Question : Type 0 where
   a_time : LockKind → Question
 
 abbrev pub asks : Word → Option Question
-asks (<n> n) = none
-asks (<key> n) = none
-asks (<keyhash> n) = none
-asks (<h> kind n) = none
-asks DUP = none
-asks IFDUP = none
-asks SWAP = none
-asks SIZE = none
-asks TOALTSTACK = none
-asks FROMALTSTACK = none
-asks VERIFY = none
-asks (HASH kind) = some (a_digest kind)
-asks CHECKLOCKTIMEVERIFY = some (a_time After)
-asks CHECKSEQUENCEVERIFY = some (a_time Older)
-asks 0NOTEQUAL = none
-asks BOOLAND = none
-asks BOOLOR = none
-asks ADD = none
-asks EQUAL = none
-asks NUMEQUAL = none
-asks CHECKSIG = some a_signature
-asks CHECKMULTISIG = some signatures
-asks EQUALVERIFY = none
-asks NUMEQUALVERIFY = none
-asks CHECKSIGVERIFY = some a_signature
-asks CHECKMULTISIGVERIFY = some signatures
-asks CHECKSIGADD = some an_added_signature
-asks IF = none
-asks NOTIF = none
-asks ELSE = none
-asks ENDIF = none
+asks (<n> n) = None
+asks (<key> n) = None
+asks (<keyhash> n) = None
+asks (<h> kind n) = None
+asks DUP = None
+asks IFDUP = None
+asks SWAP = None
+asks SIZE = None
+asks TOALTSTACK = None
+asks FROMALTSTACK = None
+asks VERIFY = None
+asks (HASH kind) = Some (a_digest kind)
+asks CHECKLOCKTIMEVERIFY = Some (a_time After)
+asks CHECKSEQUENCEVERIFY = Some (a_time Older)
+asks 0NOTEQUAL = None
+asks BOOLAND = None
+asks BOOLOR = None
+asks ADD = None
+asks EQUAL = None
+asks NUMEQUAL = None
+asks CHECKSIG = Some a_signature
+asks CHECKMULTISIG = Some signatures
+asks EQUALVERIFY = None
+asks NUMEQUALVERIFY = None
+asks CHECKSIGVERIFY = Some a_signature
+asks CHECKMULTISIGVERIFY = Some signatures
+asks CHECKSIGADD = Some an_added_signature
+asks IF = None
+asks NOTIF = None
+asks ELSE = None
+asks ENDIF = None
 
 -- Whether an outcome is of the sort that is asked for: a digest for a hash, else yes or no.
 abbrev pub is_digest : Outcome → Bool
@@ -123,8 +122,8 @@ module _ (c : Context) (t : Tables) where
 
   -- A word that asks does so only where it is carried out; any other asks for nothing and heeds no outcome.
   abbrev pub questioned : Option Question → Word → Stack → Stack → List Bool → List Outcome → Run
-  questioned none w m a cs rs = within (step_believing yes w m a cs) rs
-  questioned (some q) w m a cs rs = cond (all_true cs) (asking (step_believing yes w m a cs) q w m a cs rs) (within (state m a cs) rs)
+  questioned None w m a cs rs = within (step_believing yes w m a cs) rs
+  questioned (Some q) w m a cs rs = cond (all_true cs) (asking (step_believing yes w m a cs) q w m a cs rs) (within (state m a cs) rs)
 
   unfoldable pub recorded_step : Word → Run → Run
   recorded_step w (stands aborted rs) = stands aborted rs

@@ -3,7 +3,7 @@
 use Prim.Native.Nat.{ℕ, zero, suc, ◌*◌, ◌≤◌}
 use mathlib.Core.Bool.{Bool, true, false, cond}
 use mathlib.Core.List.{List, [], ◌∷◌, map}
-use mathlib.Core.Option.{Option, none, some}
+use Rattle.std.specs.Prelude.{Option, None, Some}
 use mathlib.Core.Path.{◌≡◌, refl, sym, ap, ◌∙◌}
 use native.Mathlib.Omega.{arith}
 use borrow.Author.Tests.{leb-true, le-leb}
@@ -74,7 +74,7 @@ module _ (h : Head) (es : List Entry) (e : Entry) (order : List ℕ) (room words
   abbrev answer : Option Context → Bool → List Entry → Answer (List Report)
   answer o right xs = do
     c ← or_refuse bad_context o
-    _ ← or_refuse bad_work (cond right (some words) none)
+    _ ← or_refuse bad_work (cond right (Some words) None)
     x ← typed_tree_of c h.tree
     reports_in c h.tables room xs x.tree
 
@@ -85,9 +85,9 @@ module _ (h : Head) (es : List Entry) (e : Entry) (order : List ℕ) (room words
       record { other = report c h.tables x.tree e; gives = by_entries c x.tree (has_entries c h.tables x.tree) refl k }
 
   ordered : (o : Option Context) (right : Bool) → answer o right es ≡ done rs → Ordered (answer o right (in_order es e order))
-  ordered none right k = absurd (let y : ◌≡◌ {A = ℕ} 0 1 = cc in omega arith)
-  ordered (some c) false k = absurd (let y : ◌≡◌ {A = ℕ} 0 1 = cc in omega arith)
-  ordered (some c) true k = by-tree c (typed_tree_of c h.tree) k
+  ordered None right k = absurd (let y : ◌≡◌ {A = ℕ} 0 1 = cc in omega arith)
+  ordered (Some c) false k = absurd (let y : ◌≡◌ {A = ℕ} 0 1 = cc in omega arith)
+  ordered (Some c) true k = by-tree c (typed_tree_of c h.tree) k
 
   replay-ordered : replay_log (record { front = h; entries = es }) room words ≡ done rs
       → Ordered (replay_log (record { front = h; entries = in_order es e order }) room words)

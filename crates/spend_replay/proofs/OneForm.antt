@@ -2,7 +2,7 @@
 use Prim.Native.Nat.{ℕ, zero, suc, ◌+◌, ◌*◌, ◌/◌, ◌%◌, ◌<◌, ◌≤◌}
 use mathlib.Core.Bool.{Bool, true, false, cond}
 use mathlib.Core.List.{List, [], ◌∷◌, ◌++◌, reverse, reverse-reverse, append_assoc, append-nil}
-use mathlib.Core.Option.{Option, none, some}
+use Rattle.std.specs.Prelude.{Option, None, Some}
 use mathlib.Core.Path.{◌≡◌, refl, sym, ap, subst, ◌∙◌}
 use native.Mathlib.Omega.{arith}
 use borrow.Author.Tests.{leb-true, ne_eqb}
@@ -25,15 +25,15 @@ use Rattle.spend_log.proofs.Passing.{some_same}
 -- the first read this, and the second the whole
 record Went {A B : Type 0} (o : Option (Read A)) (next : A → Reader B) (g : Read B) : Type 0 where
   first : Read A
-  reads : o ≡ some first
-  then : next first.value first.behind ≡ some g
+  reads : o ≡ Some first
+  then : next first.value first.behind ≡ Some g
 
-went : {A B : Type 0} (o : Option (Read A)) (next : A → Reader B) (g : Read B) → onward o next ≡ some g → Went o next g
-went none next g e = absurd (let z : ◌≡◌ {A = ℕ} 0 1 = cc in omega arith)
-went (some a) next g e = record { first = a; reads = refl; then = e }
+went : {A B : Type 0} (o : Option (Read A)) (next : A → Reader B) (g : Read B) → onward o next ≡ Some g → Went o next g
+went None next g e = absurd (let z : ◌≡◌ {A = ℕ} 0 1 = cc in omega arith)
+went (Some a) next g e = record { first = a; reads = refl; then = e }
 
 -- what was given
-given : {A : Type 0} {x : A} {s : Bytes} {g : Read A} → give x s ≡ some g → (g.value ≡ x) × (g.behind ≡ s)
+given : {A : Type 0} {x : A} {s : Bytes} {g : Read A} → give x s ≡ Some g → (g.value ≡ x) × (g.behind ≡ s)
 given e = (ap (λ r. r.value) (sym (some_same e)), ap (λ r. r.behind) (sym (some_same e)))
 
 as-given : {A : Type 0} (write : A → Bytes) (x : A) (t : Bytes) (g : Read A) → (g.value ≡ x) × (g.behind ≡ t)
@@ -54,10 +54,10 @@ bytes-front (b ∷ w) s a = (a.0, bytes-front w s a.1)
 
 -- A reader reads bytes only as they are written.
 record Writes {A : Type 0} (r : Reader A) (write : A → Bytes) : Type 0 where
-  tells : (s : Bytes) (g : Read A) → All IsByte s → r s ≡ some g → s ≡ write g.value ++ g.behind
+  tells : (s : Bytes) (g : Read A) → All IsByte s → r s ≡ Some g → s ≡ write g.value ++ g.behind
 
 module _ {A : Type 0} {r : Reader A} {write : A → Bytes} (w : Writes r write) where
-  left-bytes : (s : Bytes) (g : Read A) → All IsByte s → r s ≡ some g → All IsByte g.behind
+  left-bytes : (s : Bytes) (g : Read A) → All IsByte s → r s ≡ Some g → All IsByte g.behind
   left-bytes s g a e = bytes-behind (write g.value) g.behind (subst (λ (t : Bytes). All IsByte t) (w.tells s g a e) a)
 
 -- ---- numbers
@@ -75,11 +75,11 @@ record Blocked (n : ℕ) (s : Bytes) (g : Read Bytes) : Type 0 where
   is : s ≡ g.value ++ g.behind
   long : length g.value ≡ n
 
-block-told : (n : ℕ) (s : Bytes) (g : Read Bytes) → block n s ≡ some g → Blocked n s g
+block-told : (n : ℕ) (s : Bytes) (g : Read Bytes) → block n s ≡ Some g → Blocked n s g
 unfolding block
 block-told n s g e = by-room (leb n (length s)) refl e
   where
-    by-room : (t : Bool) → leb n (length s) ≡ t → cond t (some (record { value = take n s; behind = drop n s })) none ≡ some g → Blocked n s g
+    by-room : (t : Bool) → leb n (length s) ≡ t → cond t (Some (record { value = take n s; behind = drop n s })) None ≡ Some g → Blocked n s g
     by-room true t k =
         let v : g.value ≡ take n s = ap (λ r. r.value) (sym (some_same k)) in
         let b : g.behind ≡ drop n s = ap (λ r. r.behind) (sym (some_same k)) in
@@ -90,7 +90,7 @@ number-writes : Writes number number_bytes
 unfolding number
 number-writes = record { tells = by-block }
   where
-    by-block : (s : Bytes) (g : Read ℕ) → All IsByte s → number s ≡ some g → s ≡ number_bytes g.value ++ g.behind
+    by-block : (s : Bytes) (g : Read ℕ) → All IsByte s → number s ≡ Some g → s ≡ number_bytes g.value ++ g.behind
     by-block s g a e =
         let k = went (block 4 s) (λ bytes. give (little bytes)) g e in
         let b = block-told 4 s k.first k.reads in
@@ -107,7 +107,7 @@ element-writes : Writes element element_bytes
 unfolding element
 element-writes = record { tells = by_number }
   where
-    by_number : (s : Bytes) (g : Read Bytes) → All IsByte s → element s ≡ some g → s ≡ element_bytes g.value ++ g.behind
+    by_number : (s : Bytes) (g : Read Bytes) → All IsByte s → element s ≡ Some g → s ≡ element_bytes g.value ++ g.behind
     by_number s g a e =
         let k = went (number s) block g e in
         let n = number-writes.tells s k.first a k.reads in
@@ -117,13 +117,13 @@ element-writes = record { tells = by_number }
 
 module _ {A : Type 0} (r : Reader A) (write : A → Bytes) (w : Writes r write) where
   -- one, and those behind it
-  one_more : (s : Bytes) (x : Read A) (xs : Read (List A)) → All IsByte s → r s ≡ some x
+  one_more : (s : Bytes) (x : Read A) (xs : Read (List A)) → All IsByte s → r s ≡ Some x
       → x.behind ≡ several_bytes write xs.value ++ xs.behind → s ≡ several_bytes write (x.value ∷ xs.value) ++ xs.behind
   unfolding several_bytes
   one_more s x xs a e k =
       w.tells s x a e ∙ ap (λ t. write x.value ++ t) k ∙ sym (append_assoc (write x.value) (several_bytes write xs.value) xs.behind)
 
-  several-writes : (n : ℕ) (s : Bytes) (g : Read (List A)) → All IsByte s → several r n s ≡ some g
+  several-writes : (n : ℕ) (s : Bytes) (g : Read (List A)) → All IsByte s → several r n s ≡ Some g
       → (s ≡ several_bytes write g.value ++ g.behind) × (length g.value ≡ n)
   unfolding several several_bytes
   several-writes zero s g a e =
@@ -142,7 +142,7 @@ module _ {A : Type 0} (r : Reader A) (write : A → Bytes) (w : Writes r write) 
   unfolding counted
   counted-writes = record { tells = by_number }
     where
-      by_number : (s : Bytes) (g : Read (List A)) → All IsByte s → counted r s ≡ some g → s ≡ counted_bytes write g.value ++ g.behind
+      by_number : (s : Bytes) (g : Read (List A)) → All IsByte s → counted r s ≡ Some g → s ≡ counted_bytes write g.value ++ g.behind
       by_number s g a e =
           let k = went (number s) (several r) g e in
           let n = number-writes.tells s k.first a k.reads in
@@ -151,7 +151,7 @@ module _ {A : Type 0} (r : Reader A) (write : A → Bytes) (w : Writes r write) 
           ∙ ap (λ m. number_bytes m ++ (several_bytes write g.value ++ g.behind)) (sym xs.1)
           ∙ sym (append_assoc (number_bytes (length g.value)) (several_bytes write g.value) g.behind)
 
-  up-to-writes : (most : ℕ) (s : Bytes) (g : Read (List A)) → All IsByte s → up_to_end r most s ≡ some g
+  up-to-writes : (most : ℕ) (s : Bytes) (g : Read (List A)) → All IsByte s → up_to_end r most s ≡ Some g
       → (s ≡ several_bytes write g.value) × (g.behind ≡ [])
   unfolding up_to_end several_bytes
   up-to-writes zero [] g a e =
@@ -174,7 +174,7 @@ stack-writes : Writes elements stack_bytes
 unfolding elements
 stack-writes = record { tells = by-elements }
   where
-    by-elements : (s : Bytes) (g : Read Stack) → All IsByte s → elements s ≡ some g → s ≡ stack_bytes g.value ++ g.behind
+    by-elements : (s : Bytes) (g : Read Stack) → All IsByte s → elements s ≡ Some g → s ≡ stack_bytes g.value ++ g.behind
     by-elements s g a e =
         let k = went (counted element s) (λ xs. give (reverse xs)) g e in
         let v = given k.then in
@@ -187,7 +187,7 @@ byte-writes : Writes byte (λ b. b ∷ [])
 unfolding byte
 byte-writes = record { tells = by_bytes }
   where
-    by_bytes : (s : Bytes) (g : Read ℕ) → All IsByte s → byte s ≡ some g → s ≡ (g.value ∷ []) ++ g.behind
+    by_bytes : (s : Bytes) (g : Read ℕ) → All IsByte s → byte s ≡ Some g → s ≡ (g.value ∷ []) ++ g.behind
     by_bytes [] g a e = absurd (let z : ◌≡◌ {A = ℕ} 0 1 = cc in omega arith)
     by_bytes (b ∷ s) g a e = cc
 
@@ -195,7 +195,7 @@ outcome-writes : Writes outcome outcome_bytes
 unfolding outcome outcome_of
 outcome-writes = record { tells = by_byte }
   where
-    by-sort : (sort : ℕ) (s : Bytes) (g : Read Outcome) → All IsByte s → outcome_of sort s ≡ some g → sort ∷ s ≡ outcome_bytes g.value ++ g.behind
+    by-sort : (sort : ℕ) (s : Bytes) (g : Read Outcome) → All IsByte s → outcome_of sort s ≡ Some g → sort ∷ s ≡ outcome_bytes g.value ++ g.behind
     by-sort zero s g a e = as-given outcome_bytes no s g (given e)
     by-sort (suc zero) s g a e = as-given outcome_bytes yes s g (given e)
     by-sort (suc (suc zero)) s g a e =
@@ -205,12 +205,12 @@ outcome-writes = record { tells = by_byte }
         ∙ as-given outcome_bytes (digest k.first.value) k.first.behind g v
     by-sort (suc (suc (suc n))) s g a e =
         let m = suc (suc (suc n)) in
-        let z : none ≡ some g =
+        let z : None ≡ Some g =
         simp (ne_eqb m 0 (λ q. omega arith), ne_eqb m 1 (λ q. omega arith), ne_eqb m 2 (λ q. omega arith)) at e
         in
         absurd (let y : ◌≡◌ {A = ℕ} 0 1 = cc in omega arith)
 
-    by_byte : (s : Bytes) (g : Read Outcome) → All IsByte s → outcome s ≡ some g → s ≡ outcome_bytes g.value ++ g.behind
+    by_byte : (s : Bytes) (g : Read Outcome) → All IsByte s → outcome s ≡ Some g → s ≡ outcome_bytes g.value ++ g.behind
     by_byte s g a e =
         let k = went (byte s) outcome_of g e in
         byte-writes.tells s k.first a k.reads
@@ -220,7 +220,7 @@ end-writes : Writes ending end_bytes
 unfolding ending end_of
 end-writes = record { tells = by_byte }
   where
-    by-sort : (sort : ℕ) (s : Bytes) (g : Read End) → All IsByte s → end_of sort s ≡ some g → sort ∷ s ≡ end_bytes g.value ++ g.behind
+    by-sort : (sort : ℕ) (s : Bytes) (g : Read End) → All IsByte s → end_of sort s ≡ Some g → sort ∷ s ≡ end_bytes g.value ++ g.behind
     by-sort zero s g a e = as-given end_bytes aborts s g (given e)
     by-sort (suc zero) s g a e =
         let k = went (elements s) (λ m. give (leaves m)) g e in
@@ -229,10 +229,10 @@ end-writes = record { tells = by_byte }
         ∙ as-given end_bytes (leaves k.first.value) k.first.behind g v
     by-sort (suc (suc n)) s g a e =
         let m = suc (suc n) in
-        let z : none ≡ some g = simp (ne_eqb m 0 (λ q. omega arith), ne_eqb m 1 (λ q. omega arith)) at e in
+        let z : None ≡ Some g = simp (ne_eqb m 0 (λ q. omega arith), ne_eqb m 1 (λ q. omega arith)) at e in
         absurd (let y : ◌≡◌ {A = ℕ} 0 1 = cc in omega arith)
 
-    by_byte : (s : Bytes) (g : Read End) → All IsByte s → ending s ≡ some g → s ≡ end_bytes g.value ++ g.behind
+    by_byte : (s : Bytes) (g : Read End) → All IsByte s → ending s ≡ Some g → s ≡ end_bytes g.value ++ g.behind
     by_byte s g a e =
         let k = went (byte s) end_of g e in
         byte-writes.tells s k.first a k.reads
@@ -248,7 +248,7 @@ entry-writes : Writes entry entry_bytes
 unfolding entry entry_bytes
 entry-writes = record { tells = by_parts }
   where
-    by_parts : (s : Bytes) (g : Read Entry) → All IsByte s → entry s ≡ some g → s ≡ entry_bytes g.value ++ g.behind
+    by_parts : (s : Bytes) (g : Read Entry) → All IsByte s → entry s ≡ Some g → s ≡ entry_bytes g.value ++ g.behind
     by_parts s g a e =
         let k = went (number s) (λ n. elements >>= λ m. counted outcome >>= λ os. ending >>= λ x. give (made n m os x)) g e in
         let a₁ = left-bytes number-writes s k.first a k.reads in
@@ -272,7 +272,7 @@ entry-writes = record { tells = by_parts }
 
 -- ---- the head: six numbers, then five blocks
 
-module _ {B : Type 0} (next : ℕ → Reader B) (s : Bytes) (g : Read B) (a : All IsByte s) (e : onward (number s) next ≡ some g) where
+module _ {B : Type 0} (next : ℕ → Reader B) (s : Bytes) (g : Read B) (a : All IsByte s) (e : onward (number s) next ≡ Some g) where
   number-then : Went (number s) next g
   number-then = went (number s) next g e
 
@@ -282,7 +282,7 @@ module _ {B : Type 0} (next : ℕ → Reader B) (s : Bytes) (g : Read B) (a : Al
   number-left : All IsByte number-then.first.behind
   number-left = left-bytes number-writes s number-then.first a number-then.reads
 
-module _ {B : Type 0} (n : ℕ) (next : Bytes → Reader B) (s : Bytes) (g : Read B) (e : onward (block n s) next ≡ some g) where
+module _ {B : Type 0} (n : ℕ) (next : Bytes → Reader B) (s : Bytes) (g : Read B) (e : onward (block n s) next ≡ Some g) where
   block-then : Went (block n s) next g
   block-then = went (block n s) next g e
 
@@ -305,7 +305,7 @@ record Contents (c t k kh h32 h20 : ℕ) (s : Bytes) (g : Read Head) : Type 0 wh
   hashes20 : length g.value.tables.hashes20 ≡ h20
   is : s ≡ contents_bytes g.value g.behind
 
-contents-told : (c t k kh h32 h20 : ℕ) (s : Bytes) (g : Read Head) → contents c t k kh h32 h20 s ≡ some g → Contents c t k kh h32 h20 s g
+contents-told : (c t k kh h32 h20 : ℕ) (s : Bytes) (g : Read Head) → contents c t k kh h32 h20 s ≡ Some g → Contents c t k kh h32 h20 s g
 unfolding contents
 contents-told c t k kh h32 h20 s g e =
     let w₁ = block-then t (λ a. block k >>= λ b. block kh >>= λ d. block h32 >>= λ f. block h20 >>= λ i. give (head_with c a b d f i)) s g e in
@@ -349,7 +349,7 @@ head-writes : Writes head head_bytes
 unfolding head head_bytes
 head-writes = record { tells = by-numbers }
   where
-    by-numbers : (s : Bytes) (g : Read Head) → All IsByte s → head s ≡ some g → s ≡ head_bytes g.value ++ g.behind
+    by-numbers : (s : Bytes) (g : Read Head) → All IsByte s → head s ≡ Some g → s ≡ head_bytes g.value ++ g.behind
     by-numbers s g a e =
         let w₁ = number-then (λ c. number >>= λ t. number >>= λ k. number >>= λ kh. number >>= λ h32. number >>= λ h20. contents c t k kh h32 h20) s g a e in
         let c = w₁.first.value in
@@ -402,9 +402,9 @@ pub one_form : OneForm
 unfolding log log_bytes to_end
 one_form s l a e = by-log (log s) refl e
   where
-    by-log : (o : Option (Read Log)) → log s ≡ o → value_of o ≡ some l → s ≡ log_bytes l
-    by-log none k v = absurd (let y : ◌≡◌ {A = ℕ} 0 1 = cc in omega arith)
-    by-log (some g) k v =
+    by-log : (o : Option (Read Log)) → log s ≡ o → value_of o ≡ Some l → s ≡ log_bytes l
+    by-log None k v = absurd (let y : ◌≡◌ {A = ℕ} 0 1 = cc in omega arith)
+    by-log (Some g) k v =
         let w = went (head s) (λ h. to_end entry >>= λ es. give (record { front = h; entries = es })) g k in
         let h = w.first.value in
         let left = left-bytes head-writes s w.first a w.reads in

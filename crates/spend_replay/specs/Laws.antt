@@ -1,6 +1,5 @@
 -- Entries don't affect one another: document 02, R-6. A log with its entries in another order gives the reports in that order.
-use Rattle.std.specs.Prelude.{ℕ, ◌<◌, ◌≤◌, List, ◌++◌, ◌≡◌, length}
-use Rattle.std.proofs.Math.Option.{some}
+use Rattle.std.specs.Prelude.{ℕ, ◌<◌, ◌≤◌, List, ◌++◌, ◌≡◌, length, Some}
 use Rattle.trees.specs.Reading.{done}
 use Rattle.script_machine.specs.Numbers.{Bytes}
 use Rattle.spend_machine.specs.Entries.{Entry}
@@ -30,4 +29,4 @@ abbrev pub IsByte : ℕ → Type 0
 IsByte b = b < 256
 
 abbrev pub OneForm : Type 0
-OneForm = (s : Bytes) (l : Log) → All IsByte s → log_of s ≡ some l → s ≡ log_bytes l
+OneForm = (s : Bytes) (l : Log) → All IsByte s → log_of s ≡ Some l → s ≡ log_bytes l

@@ -1,7 +1,6 @@
 -- What the replay of a log gives: document 02, R-6. A broken log is 14; then come the refusals of R-1: 1, 2, the tree check's, 17; and 13 where
 -- the reports do not fit.
-use Rattle.std.specs.Prelude.{ℕ, ◌+◌, ◌*◌, cond, List, ◌++◌, ◌≡◌, leb, eqb, length, drop}
-use Rattle.std.proofs.Math.Option.{none, some}
+use Rattle.std.specs.Prelude.{ℕ, ◌+◌, ◌*◌, cond, List, ◌++◌, ◌≡◌, leb, eqb, length, drop, None, Some}
 use Rattle.words.specs.Bytes.{bytes_of}
 use Rattle.words.specs.Memory.{zeroed}
 use Rattle.contexts.specs.declared.Context.{Context}
@@ -45,7 +44,7 @@ reports_in c t room es f = cond (has_entries c t f) (fitting room (reports c t f
 unfoldable pub replay_log : Log → (room words : ℕ) → Answer (List Report)
 replay_log l room words = do
   c ← or_refuse bad_context (context_of l.front.context)
-  _ ← or_refuse bad_work (cond (eqb words replay_words) (some words) none)
+  _ ← or_refuse bad_work (cond (eqb words replay_words) (Some words) None)
   x ← typed_tree_of c l.front.tree
   reports_in c l.front.tables room l.entries x.tree
 

@@ -1,8 +1,7 @@
 -- Where the run of a fragment with children goes, by its kind's number: what it does before the first child that it runs, behind each child,
 -- and at its end. A branch that is not taken is not run. `y j` stands for all that comes from child number j on, `y n` for the end alone.
 -- proofs/Continuing.antt shows that this is the run of `spend_machine`, specs/Playing.antt.
-use Rattle.std.specs.Prelude.{ℕ, zero, suc, ◌+◌, List, [], ◌∷◌, ◌≡◌, length}
-use Rattle.std.proofs.Math.Option.{Option, none, some}
+use Rattle.std.specs.Prelude.{ℕ, zero, suc, ◌+◌, List, [], ◌∷◌, ◌≡◌, length, Option, None, Some}
 use Rattle.contexts.specs.declared.Context.{Context}
 use Rattle.trees.specs.Tree.{◌is◌, find}
 use Rattle.script_machine.specs.Words.{Word, <n>, DUP, IFDUP, SWAP, SIZE, TOALTSTACK, FROMALTSTACK, VERIFY, 0NOTEQUAL, BOOLAND, BOOLOR, ADD}
@@ -15,8 +14,8 @@ use Rattle.spend_stack.specs.Machines.{run_of, Fits}
 use Rattle.spend_run.specs.declared.Turn.{Turn}
 
 abbrev pub or_else : {A : Type 0} → A → Option A → A
-or_else a (some x) = x
-or_else a none = a
+or_else a (Some x) = x
+or_else a None = a
 
 module _ (c : Context) (t : Tables) where
   -- a word; one piece after another

@@ -37,10 +37,7 @@ fn takes(log: &[u8], main: &[u64], m: Machine) -> bool
     requires { Fits log.now main.now m }
     ensures { (alt : List ℕ) → result ≡ top_true (run_of log.now main.now alt m) }
 {
-    if spend_stack::is_going(m) {
-        return spend_stack::top_true(log, main, m);
-    }
-    false
+    spend_stack::is_going(m) && spend_stack::top_true(log, main, m)
 }
 
 // IF: its element is taken, and one child comes next where it is true, another where it is false.
@@ -58,17 +55,11 @@ fn branch(
     ensures by_index { (p : ℕ) → p < holding → p < failing → p < result.place }
 {
     let taken = takes(log, main, m);
-    let a = spend_stack::open(context, log, main, m);
+    let m = spend_stack::open(context, log, main, m);
     if taken {
-        return Turn {
-            place: holding,
-            m: a,
-        };
+        return Turn { place: holding, m };
     }
-    Turn {
-        place: failing,
-        m: a,
-    }
+    Turn { place: failing, m }
 }
 
 // Runs what stands before the first child of a fragment with n children that is no Alt.
@@ -84,6 +75,7 @@ fn start_on_main(
     ensures { (t : Tables) (alt : List ℕ) → Turns (starting context t kind n) log.now main.old alt
         main.new alt m result }
 {
+    // A kind stays a number: a record or a node holds one, and the contract answers on every number.
     match kind {
         43 => {
             let a = spend_stack::swap(log, main, m);
@@ -131,6 +123,7 @@ fn next_first(
         main.new alt m result }
     ensures place_nonzero { 0 < result.place }
 {
+    // A kind stays a number: a record or a node holds one, and the contract answers on every number.
     match kind {
         49 => Turn { place: 1, m },
         50 => Turn { place: 1, m },
@@ -177,6 +170,7 @@ fn finish_on_main(kind: u16, k: u16, log: &[u8], main: &mut [u64], m: Machine) -
     ensures { (c : Context) (t : Tables) (alt : List ℕ) → Moves (ending c t kind k) log.now main.old alt
         main.new alt m result }
 {
+    // A kind stays a number: a record or a node holds one, and the contract answers on every number.
     match kind {
         44 => spend_asks::check_sig(log, main, m),
         46 => spend_stack::verify(log, main, m),
@@ -269,6 +263,7 @@ pub fn run_record(
     let first = start(context, kind, n, log, work, m);
     let mut place = first.place;
     let mut at = first.m;
+    // A run may leave children out.
     while place < n {
         let child = children[place] as usize;
         let r = run_record(context, log, head, tree, child, work, at);

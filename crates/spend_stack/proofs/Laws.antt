@@ -3,7 +3,9 @@ use Prim.Native.Nat.{ℕ, zero, suc, ◌+◌, ◌*◌, ◌-◌, ◌≤◌, ◌<�
 use native.Mathlib.Omega.{arith}
 use mathlib.Core.Bool.{Bool, true, false, not, cond, false≢true}
 use mathlib.Core.List.{List, [], ◌∷◌, ◌++◌}
+use mathlib.Core.Logic.{inl, inr}
 use mathlib.Core.Path.{◌≡◌, refl, ◌∙◌, sym, ap}
+use Rattle.std.specs.Prelude.{Err}
 use lib.ListN.{length, drop}
 use Rattle.contexts.specs.declared.Context.{Context}
 use Rattle.script_machine.specs.Numbers.{Bytes, Stack}
@@ -21,7 +23,7 @@ use Rattle.spend_stack.specs.declared.Status.TheVariants as Status
 use Rattle.spend_stack.specs.Memory.{work_words, main_in, alt_in}
 use Rattle.spend_stack.specs.Machines.{element_at, put_element, stack_of, going, is_going, with_status, with_main, standing, left_of, run_of}
 use Rattle.spend_stack.specs.Machines.{Asks, Fits, Over, pushed, Pushes, Does, DoesBoth}
-use Rattle.spend_stack.specs.Pieces.{Opens}
+use Rattle.spend_stack.specs.Pieces.{Readied, Opens}
 use Rattle.spend_stack.proofs.Memory.{main-back, alt-back}
 use Rattle.spend_stack.proofs.Stacks.{put-length, height, put-top, none-on, one_on, within-few, within-many}
 
@@ -112,6 +114,12 @@ module _ {w : Word} {log main : List ℕ} {m r : Machine} (g : is_going m ≡ tr
         fits = rw e (record { few = omega arith; room = f.room; asks = record { ends = f.asks.ends } });
         same = refl;
       }
+
+-- it does not go on, or has too few elements
+pub not-ready : {w : Word} {log main : List ℕ} {m r : Machine} (n : ℕ) → Fits log main m → Readied m n (Err r)
+    → (m.main < n → On w log main m (λ a rs. stands aborted rs)) → Does w log main main m r
+not-ready n f (inl p) h = rw p.1 (stays p.0 f)
+not-ready n f (inr p) h = aborts p.0 f p.2 (h p.1)
 
 -- over
 pub put-over : {log before after : List ℕ} {m r : Machine} {n : ℕ} {e : Element} → Fits log before m → n ≤ m.main → n + m.alt < 4096
@@ -208,17 +216,18 @@ one-stack {alt = alt} d = record { says = λ c t. d.says c t alt; fits = d.fits;
 
 module _ {log main alt : List ℕ} {m r : Machine} (g : is_going m ≡ true) (f : Fits log main m) (wide : 8192 ≤ length alt) where
   pub to-alts : {alt' : List ℕ} {e : Element} → 1 ≤ m.main → e ≡ element_at main (m.main - 1) → alt' ≡ put_element alt m.alt e
-      → r ≡ record { main = m.main - 1; alt = m.alt + 1; at = m.at; left = m.left; status = Status.Going }
+      → r ≡ record { main = m.main - 1; alt = m.alt + 1; at = m.at; left = m.left; status = m.status }
       → DoesBoth TOALTSTACK log main alt main alt' m r
   unfolding run_of recorded_step step
   to-alts {alt'} {e} one ee ea er =
       let few = f.few in
+      let is : r ≡ record { main = m.main - 1; alt = m.alt + 1; at = m.at; left = m.left; status = Status.Going } = rw (← going-is m.status g) er in
       let next : m.alt + 1 ≡ suc m.alt = omega arith in
       let on : stack_of log alt' (m.alt + 1) ≡ bytes_in log e ∷ stack_of log alt m.alt =
       ap (stack_of log alt') next ∙ (rw ea (put-top log alt m.alt e (omega arith) wide)) in
       record {
         says = λ c t.
-            rw er (ap (λ (s : Stack). stands (state (stack_of log main (m.main - 1)) s []) (left_of log m)) (on ∙ rw ee refl)
+            rw is (ap (λ (s : Stack). stands (state (stack_of log main (m.main - 1)) s []) (left_of log m)) (on ∙ rw ee refl)
             ∙ sym (within-few (stack_of log main (m.main - 1)) (bytes_in log (element_at main (m.main - 1)) ∷ stack_of log alt m.alt) [] (left_of log m)
             (rw (height log main (m.main - 1), height log alt m.alt) (omega arith)))
             ∙ sym (ap (recorded_step c t TOALTSTACK) (goes log main alt m g) ∙ rw (one_on log main m.main one) refl));
@@ -227,18 +236,19 @@ module _ {log main alt : List ℕ} {m r : Machine} (g : is_going m ≡ true) (f 
       }
 
   pub from-alts : {main' : List ℕ} {e : Element} → 1 ≤ m.alt → e ≡ element_at alt (m.alt - 1) → main' ≡ put_element main m.main e
-      → r ≡ record { main = m.main + 1; alt = m.alt - 1; at = m.at; left = m.left; status = Status.Going }
+      → r ≡ record { main = m.main + 1; alt = m.alt - 1; at = m.at; left = m.left; status = m.status }
       → DoesBoth FROMALTSTACK log main alt main' alt m r
   unfolding run_of recorded_step step
   from-alts {main'} {e} one ee ea er =
       let few = f.few in
+      let is : r ≡ record { main = m.main + 1; alt = m.alt - 1; at = m.at; left = m.left; status = Status.Going } = rw (← going-is m.status g) er in
       let room = f.room in
       let next : m.main + 1 ≡ suc m.main = omega arith in
       let on : stack_of log main' (m.main + 1) ≡ bytes_in log e ∷ stack_of log main m.main =
       ap (stack_of log main') next ∙ (rw ea (put-top log main m.main e (omega arith) f.room)) in
       record {
         says = λ c t.
-            rw er (ap (λ (s : Stack). stands (state s (stack_of log alt (m.alt - 1)) []) (left_of log m)) (on ∙ rw ee refl)
+            rw is (ap (λ (s : Stack). stands (state s (stack_of log alt (m.alt - 1)) []) (left_of log m)) (on ∙ rw ee refl)
             ∙ sym (within-few (bytes_in log (element_at alt (m.alt - 1)) ∷ stack_of log main m.main) (stack_of log alt (m.alt - 1)) [] (left_of log m)
             (rw (height log main m.main, height log alt (m.alt - 1)) (omega arith)))
             ∙ sym (ap (recorded_step c t FROMALTSTACK) (goes log main alt m g) ∙ rw (one_on log alt m.alt one) refl));
@@ -296,3 +306,8 @@ module _ {c : Context} {log main : List ℕ} {m r : Machine} (g : is_going m ≡
         says = λ alt. rw e (goes log main alt (with_main m (m.main - 1)) g ∙ sym (ap (opened c) (goes log main alt m g) ∙ h alt));
         fits = rw e (record { few = omega arith; room = f.room; asks = record { ends = f.asks.ends } });
       }
+
+pub opens-not-ready : {c : Context} {log main : List ℕ} {m r : Machine} → Fits log main m → Readied m 1 (Err r)
+    → (m.main < 1 → (alt : List ℕ) → opened c (stands (state_of log main alt m) (left_of log m)) ≡ stands aborted (left_of log m)) → Opens c log main m r
+opens-not-ready f (inl p) h = rw p.1 (opens_not p.0 f)
+opens-not-ready f (inr p) h = opens-abort p.0 f p.2 (h p.1)

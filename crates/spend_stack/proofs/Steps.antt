@@ -88,10 +88,6 @@ pair_one Pair.BoolAnd x c t a rs = refl
 pair_one Pair.BoolOr x c t a rs = refl
 pair_one Pair.Add x c t a rs = refl
 
-pub and_parts : (a b : Bool) → a && b ≡ true → (a ≡ true) × (b ≡ true)
-and_parts true b e = (refl, e)
-and_parts false b e = absurd (false≢true e)
-
 -- few bytes
 take-few : (n : ℕ) (l : List ℕ) → length (take n l) ≤ n
 take-few zero l = omega arith

@@ -5,13 +5,13 @@
 // specs/Machines.antt, which says what run a machine and its memory stand for; specs/Memory.antt says where the stacks lie.
 #![tactic(auto)]
 
-ghost use Rattle.std.specs.Prelude.{◌≡◌, List, ◌&&◌, ◌||◌, ℕ, ◌+◌, ◌<◌, ◌≤◌, length};
+ghost use Rattle.std.specs.Prelude.{◌≡◌, List, ℕ, ◌+◌, ◌<◌, ◌≤◌, length};
 ghost use Rattle.script_machine.specs.Words.{DUP, IFDUP, SWAP, SIZE, TOALTSTACK, FROMALTSTACK, VERIFY, 0NOTEQUAL, EQUAL};
 ghost use Rattle.spend_elements.specs.Elements.{bytes_in};
 ghost use Rattle.spend_elements.specs.Signed.{value_in};
 ghost use Rattle.spend_stack.specs.Memory.{work_words, main_in, alt_in, Keeps};
 ghost use Rattle.spend_stack.specs.Machines.{element_at, put_element, stack_of, is_going, with_status, with_main, Fits, Over, Does, DoesBoth, Pushes};
-ghost use Rattle.spend_stack.specs.Pieces.{combine, word_of, top_true, Opens};
+ghost use Rattle.spend_stack.specs.Pieces.{Readied, combine, word_of, top_true, Opens};
 
 use contexts::Context;
 use spend_elements::{Element, Number};
@@ -75,40 +75,21 @@ pub fn put(memory: &mut [u64], i: usize, e: Element)
 pub fn is_going(m: Machine) -> bool
     ensures { result ≡ is_going m }
 {
-    let status = m.status;
-    match status {
-        Status::Going => true,
-        Status::Aborted => false,
-        Status::Stuck => false,
-        Status::Large => false,
-    }
+    matches!(m.status, Status::Going)
 }
 
 // The same run, standing otherwise.
 pub fn with_status(m: Machine, status: Status) -> Machine
     ensures { result ≡ with_status m status }
 {
-    Machine {
-        main: m.main,
-        alt: m.alt,
-        at: m.at,
-        left: m.left,
-        status,
-    }
+    Machine { status, ..m }
 }
 
 // The same run with the lowest n elements of its main stack.
 pub fn with_main(m: Machine, n: usize) -> Machine
     ensures { result ≡ with_main m n }
 {
-    let status = m.status;
-    Machine {
-        main: n,
-        alt: m.alt,
-        at: m.at,
-        left: m.left,
-        status,
-    }
+    Machine { main: n, ..m }
 }
 
 // The same run with e over the lowest n elements of its main stack, or too large with it.
@@ -121,6 +102,19 @@ pub fn over(log: &[u8], main: &mut [u64], m: Machine, n: usize, e: Element) -> M
         return with_main(m, n + 1);
     }
     with_status(m, Status::Large)
+}
+
+// Whether a run goes on and has n elements at least; else what becomes of it at a word that takes so many.
+pub fn ready(m: Machine, n: usize) -> Result<(), Machine>
+    ensures { Readied m n result }
+{
+    if is_going(m) {
+        if m.main < n {
+            return Err(with_status(m, Status::Aborted));
+        }
+        return Ok(());
+    }
+    Err(m)
 }
 
 // Pushes an element.
@@ -139,15 +133,10 @@ pub fn dup(log: &[u8], main: &mut [u64], m: Machine) -> Machine
     requires { Fits log.now main.old m }
     ensures { Does DUP log.now main.old main.new m result }
 {
-    if is_going(m) {
-        let n = m.main;
-        if n < 1 {
-            return with_status(m, Status::Aborted);
-        }
-        let e = get(main, n - 1);
-        return over(log, main, m, n, e);
+    match ready(m, 1) {
+        Err(end) => end,
+        Ok(()) => over(log, main, m, m.main, get(main, m.main - 1)),
     }
-    m
 }
 
 // IFDUP.
@@ -155,17 +144,16 @@ pub fn if_dup(log: &[u8], main: &mut [u64], m: Machine) -> Machine
     requires { Fits log.now main.old m }
     ensures { Does IFDUP log.now main.old main.new m result }
 {
-    if is_going(m) {
-        let n = m.main;
-        if n < 1 {
-            return with_status(m, Status::Aborted);
-        }
-        let e = get(main, n - 1);
-        if spend_elements::is_true(log, e) {
-            return over(log, main, m, n, e);
+    match ready(m, 1) {
+        Err(end) => end,
+        Ok(()) => {
+            let e = get(main, m.main - 1);
+            if spend_elements::is_true(log, e) {
+                return over(log, main, m, m.main, e);
+            }
+            m
         }
     }
-    m
 }
 
 // SIZE.
@@ -173,16 +161,14 @@ pub fn size(log: &[u8], main: &mut [u64], m: Machine) -> Machine
     requires { Fits log.now main.old m }
     ensures { Does SIZE log.now main.old main.new m result }
 {
-    if is_going(m) {
-        let n = m.main;
-        if n < 1 {
-            return with_status(m, Status::Aborted);
+    match ready(m, 1) {
+        Err(end) => end,
+        Ok(()) => {
+            let e = get(main, m.main - 1);
+            let w = spend_elements::written(false, spend_elements::length_of(log, e));
+            over(log, main, m, m.main, w)
         }
-        let e = get(main, n - 1);
-        let w = spend_elements::written(false, spend_elements::length_of(log, e));
-        return over(log, main, m, n, w);
     }
-    m
 }
 
 // SWAP.
@@ -190,17 +176,16 @@ pub fn swap(log: &[u8], main: &mut [u64], m: Machine) -> Machine
     requires { Fits log.now main.old m }
     ensures { Does SWAP log.now main.old main.new m result }
 {
-    if is_going(m) {
-        let n = m.main;
-        if n < 2 {
-            return with_status(m, Status::Aborted);
+    match ready(m, 2) {
+        Err(end) => end,
+        Ok(()) => {
+            let x = get(main, m.main - 1);
+            let y = get(main, m.main - 2);
+            put(main, m.main - 2, x);
+            put(main, m.main - 1, y);
+            m
         }
-        let x = get(main, n - 1);
-        let y = get(main, n - 2);
-        put(main, n - 2, x);
-        put(main, n - 1, y);
     }
-    m
 }
 
 // TOALTSTACK.
@@ -210,23 +195,18 @@ pub fn to_alt(log: &[u8], work: &mut [u64], m: Machine) -> Machine
         (main_in work.new) (alt_in work.new) m result }
     ensures keeps { Keeps work.old work.new }
 {
-    if is_going(m) {
-        let n = m.main;
-        if n < 1 {
-            return with_status(m, Status::Aborted);
+    match ready(m, 1) {
+        Err(end) => end,
+        Ok(()) => {
+            let e = get(&work[0..ALT], m.main - 1);
+            put(&mut work[ALT..STARTS], m.alt, e);
+            Machine {
+                main: m.main - 1,
+                alt: m.alt + 1,
+                ..m
+            }
         }
-        let a = m.alt;
-        let e = get(&work[0..ALT], n - 1);
-        put(&mut work[ALT..STARTS], a, e);
-        return Machine {
-            main: n - 1,
-            alt: a + 1,
-            at: m.at,
-            left: m.left,
-            status: Status::Going,
-        };
     }
-    m
 }
 
 // FROMALTSTACK.
@@ -241,15 +221,12 @@ pub fn from_alt(log: &[u8], work: &mut [u64], m: Machine) -> Machine
         if a < 1 {
             return with_status(m, Status::Aborted);
         }
-        let n = m.main;
         let e = get(&work[ALT..STARTS], a - 1);
-        put(&mut work[0..ALT], n, e);
+        put(&mut work[0..ALT], m.main, e);
         return Machine {
-            main: n + 1,
+            main: m.main + 1,
             alt: a - 1,
-            at: m.at,
-            left: m.left,
-            status: Status::Going,
+            ..m
         };
     }
     m
@@ -260,17 +237,15 @@ pub fn verify(log: &[u8], main: &mut [u64], m: Machine) -> Machine
     requires { Fits log.now main.old m }
     ensures { Does VERIFY log.now main.old main.new m result }
 {
-    if is_going(m) {
-        let n = m.main;
-        if n < 1 {
-            return with_status(m, Status::Aborted);
+    match ready(m, 1) {
+        Err(end) => end,
+        Ok(()) => {
+            if spend_elements::is_true(log, get(main, m.main - 1)) {
+                return with_main(m, m.main - 1);
+            }
+            with_status(m, Status::Aborted)
         }
-        if spend_elements::is_true(log, get(main, n - 1)) {
-            return with_main(m, n - 1);
-        }
-        return with_status(m, Status::Aborted);
     }
-    m
 }
 
 // EQUAL.
@@ -278,17 +253,15 @@ pub fn equal(log: &[u8], main: &mut [u64], m: Machine) -> Machine
     requires { Fits log.now main.old m }
     ensures { Does EQUAL log.now main.old main.new m result }
 {
-    if is_going(m) {
-        let n = m.main;
-        if n < 2 {
-            return with_status(m, Status::Aborted);
+    match ready(m, 2) {
+        Err(end) => end,
+        Ok(()) => {
+            let x = get(main, m.main - 1);
+            let y = get(main, m.main - 2);
+            let e = spend_elements::test(spend_elements::same(log, x, y));
+            over(log, main, m, m.main - 2, e)
         }
-        let x = get(main, n - 1);
-        let y = get(main, n - 2);
-        let e = spend_elements::test(spend_elements::same(log, x, y));
-        return over(log, main, m, n - 2, e);
     }
-    m
 }
 
 // 0NOTEQUAL.
@@ -296,34 +269,16 @@ pub fn zero_not_equal(log: &[u8], main: &mut [u64], m: Machine) -> Machine
     requires { Fits log.now main.old m }
     ensures { Does 0NOTEQUAL log.now main.old main.new m result }
 {
-    if is_going(m) {
-        let n = m.main;
-        if n < 1 {
-            return with_status(m, Status::Aborted);
-        }
-        let x = spend_elements::number_of(log, get(main, n - 1));
-        let short = x.short;
-        if short {
+    match ready(m, 1) {
+        Err(end) => end,
+        Ok(()) => {
+            let Some(x) = spend_elements::number_of(log, get(main, m.main - 1)) else {
+                return with_status(m, Status::Aborted);
+            };
             let e = spend_elements::test(spend_elements::nonzero(x));
-            return over(log, main, m, n - 1, e);
+            over(log, main, m, m.main - 1, e)
         }
-        return with_status(m, Status::Aborted);
     }
-    m
-}
-
-// Both of two.
-pub fn both(a: bool, b: bool) -> bool
-    ensures { result ≡ a && b }
-{
-    a && b
-}
-
-// One of two.
-fn either(a: bool, b: bool) -> bool
-    ensures { result ≡ a || b }
-{
-    a || b
 }
 
 // What NUMEQUAL, BOOLAND, BOOLOR and ADD push.
@@ -333,14 +288,12 @@ fn combined(pair: Pair, x: Number, y: Number) -> Element
 {
     match pair {
         Pair::NumEqual => spend_elements::test(spend_elements::equal(x, y)),
-        Pair::BoolAnd => spend_elements::test(both(
-            spend_elements::nonzero(x),
-            spend_elements::nonzero(y),
-        )),
-        Pair::BoolOr => spend_elements::test(either(
-            spend_elements::nonzero(x),
-            spend_elements::nonzero(y),
-        )),
+        Pair::BoolAnd => spend_elements::test(
+            spend_elements::nonzero(x) & spend_elements::nonzero(y),
+        ),
+        Pair::BoolOr => spend_elements::test(
+            spend_elements::nonzero(x) | spend_elements::nonzero(y),
+        ),
         Pair::Add => spend_elements::sum(x, y),
     }
 }
@@ -350,20 +303,18 @@ pub fn two_numbers(pair: Pair, log: &[u8], main: &mut [u64], m: Machine) -> Mach
     requires { Fits log.now main.old m }
     ensures { Does (word_of pair) log.now main.old main.new m result }
 {
-    if is_going(m) {
-        let n = m.main;
-        if n < 2 {
-            return with_status(m, Status::Aborted);
+    match ready(m, 2) {
+        Err(end) => end,
+        Ok(()) => {
+            let Some(x) = spend_elements::number_of(log, get(main, m.main - 1)) else {
+                return with_status(m, Status::Aborted);
+            };
+            let Some(y) = spend_elements::number_of(log, get(main, m.main - 2)) else {
+                return with_status(m, Status::Aborted);
+            };
+            over(log, main, m, m.main - 2, combined(pair, x, y))
         }
-        let x = spend_elements::number_of(log, get(main, n - 1));
-        let y = spend_elements::number_of(log, get(main, n - 2));
-        if both(x.short, y.short) {
-            let e = combined(pair, x, y);
-            return over(log, main, m, n - 2, e);
-        }
-        return with_status(m, Status::Aborted);
     }
-    m
 }
 
 // Whether IF would take the top element for true; false where there is none.
@@ -383,15 +334,13 @@ pub fn open(context: Context, log: &[u8], main: &[u64], m: Machine) -> Machine
     requires { Fits log.now main.now m }
     ensures { Opens context log.now main.now m result }
 {
-    if is_going(m) {
-        let n = m.main;
-        if n < 1 {
-            return with_status(m, Status::Aborted);
+    match ready(m, 1) {
+        Err(end) => end,
+        Ok(()) => {
+            if spend_elements::may_branch(context, log, get(main, m.main - 1)) {
+                return with_main(m, m.main - 1);
+            }
+            with_status(m, Status::Aborted)
         }
-        if spend_elements::may_branch(context, log, get(main, n - 1)) {
-            return with_main(m, n - 1);
-        }
-        return with_status(m, Status::Aborted);
     }
-    m
 }

@@ -59,10 +59,8 @@ fn count_of(reports: &[u8], verdict: u32, n: usize) -> usize
     ensures { result ≡ count_of reports.now verdict n }
 {
     let mut count = 0;
-    let mut i = 0;
-    while i < n {
+    for i in 0..n {
         count += one_if(verdict_in(reports, i), verdict);
-        i += 1;
     }
     count
 }

@@ -5,7 +5,7 @@
 
 mod showing;
 
-use files::{Loaded, WORD_ROOM};
+use files::WORD_ROOM;
 use showing::{say_read, say_replayed, show_refusal, show_reports};
 use std::rt::{Env, Files};
 
@@ -63,7 +63,7 @@ fn replay<R: Print + Eprint>(rt: &R, log: &[u8], verbose: bool) {
 
 // Reads the log that the words name into a room of one byte more than it may have, and replays it.
 fn run_in<R: Env + Files + Input + Print + Eprint>(rt: &R, room: &mut [u8], verbose: bool) {
-    let Loaded::Bytes(n) = files::load_word(
+    let Some(n) = files::load_word(
         rt,
         LOG_WORD,
         b"LOG",
@@ -94,22 +94,16 @@ fn asks_for_progress(rt: &impl Env) -> bool {
 }
 
 fn main(rt: HostRuntime) {
-    let words = files::word_count(&rt);
-    if words < 2 {
-        usage(&rt, "no log is named");
-        return;
+    match files::word_count(&rt) {
+        0 | 1 => usage(&rt, "no log is named"),
+        2 => run(&rt, false),
+        3 => {
+            if asks_for_progress(&rt) {
+                run(&rt, true);
+            } else {
+                usage(&rt, "the word after LOG is not -v");
+            }
+        }
+        _ => usage(&rt, "too many words"),
     }
-    if words == 2 {
-        run(&rt, false);
-        return;
-    }
-    if 3 < words {
-        usage(&rt, "too many words");
-        return;
-    }
-    if asks_for_progress(&rt) {
-        run(&rt, true);
-        return;
-    }
-    usage(&rt, "the word after LOG is not -v");
 }

@@ -70,6 +70,7 @@ fn show_lines<R: Print + Eprint>(rt: &R, reports: &[u8], n: usize, verbose: bool
 {
     let mut whole = true;
     let mut at = 0;
+    // A `while`, since the last block is shown after it, and may be shorter.
     while BLOCK_LINES < n - at {
         whole = show_block(rt, reports, at, BLOCK_LINES) & whole;
         at += BLOCK_LINES;

@@ -47,10 +47,6 @@ drop-next xs n d l =
 -- ---- asking, step by step
 
 module _ (c : Context) (pol : List ℕ) where
-  pub ask-none : (s : State) → ask_all c pol [] s ≡ done [] s
-  unfolding ask_all
-  ask-none s = refl
-
   pub ask-next : (a : Ask) (as' : List Ask) (s : State) →
       ask_all c pol (a ∷ as') s ≡ then (asked c pol a s) λ t s. then (ask_all c pol as' s) λ ts. pure (t ∷ ts)
   unfolding ask_all

@@ -1,21 +1,19 @@
 -- A stage of a search: it asks for some tables, one after another, and then pairs them, one pairing after another. The tables of And and of Or are
 -- written from compile_binary and compile_tern in policy/compiler.rs, `best_compilations`. Assumes nothing.
-use Rattle.std.specs.Prelude.{cond, List, [], ◌∷◌, ◌++◌, ℕ, eqb, get_or, Float}
+use Rattle.std.specs.Prelude.{cond, List, [], ◌∷◌, ◌++◌, ℕ, eqb, get_or, Float, Option, None, Some}
 use Rattle.contexts.specs.declared.Context.{Context}
-use Rattle.costs.specs.declared.DissatProb.{DissatProb}
-use Rattle.costs.specs.declared.DissatProb.TheVariants as Prob
 use Rattle.costs.specs.Arithmetic.{◌⊕◌, ◌⊗◌, 0·, 1·}
 use Rattle.policies.specs.Array.{policy_at}
 use Rattle.definition.specs.Candidates.{false', pair_no}
 use Rattle.definition.specs.Tables.{Probs, probs, Table}
-use Rattle.definition.specs.Refusals.{M, State, Res, done, refused, then, ◌>>=◌, pure}
+use Rattle.definition.specs.Refusals.{M, ◌>>=◌, pure}
 use Rattle.definition.specs.Search.{Again, binary, ternary, search, or_none}
 use Rattle.stages.specs.declared.Ask.{Ask}
 use Rattle.stages.specs.declared.Pairing.{Pairing}
 
 -- ---- asking
 
-abbrev pub ask : ℕ → Float → DissatProb → Ask
+abbrev pub ask : ℕ → Float → Option Float → Ask
 ask r sat dissat = record { r = r; sat = sat; dissat = dissat }
 
 abbrev pub asked : Context → (pol : List ℕ) → Ask → M Table
@@ -55,8 +53,8 @@ staged c pol p g asks pairings t = ask_all c pol asks >>= λ ts. pair_all c p g 
 
 -- ---- And of l and r: left, right, then both without dissatisfaction
 
-abbrev pub and_asks : (l r : ℕ) → Float → DissatProb → List Ask
-and_asks l r sat dissat = ask l sat dissat ∷ ask r sat dissat ∷ ask r sat Prob.None ∷ ask l sat Prob.None ∷ []
+abbrev pub and_asks : (l r : ℕ) → Float → Option Float → List Ask
+and_asks l r sat dissat = ask l sat dissat ∷ ask r sat dissat ∷ ask r sat None ∷ ask l sat None ∷ []
 
 abbrev pub and_pairings : List Pairing
 and_pairings =
@@ -70,15 +68,15 @@ and_pairings =
 
 -- ---- an Or one side of which is an And of x and y, at the weights w of that side and v of the other
 
-abbrev pub or_dissat : DissatProb → Float → Float → DissatProb
-or_dissat dissat v sat = Prob.Some (or_none dissat ⊕ v ⊗ sat)
+abbrev pub or_dissat : Option Float → Float → Float → Option Float
+or_dissat dissat v sat = Some (or_none dissat ⊕ v ⊗ sat)
 
-abbrev pub and_or_asks : (x y other : ℕ) → Float → DissatProb → (w v : Float) → List Ask
+abbrev pub and_or_asks : (x y other : ℕ) → Float → Option Float → (w v : Float) → List Ask
 and_or_asks x y other sat dissat w v =
     ask x (w ⊗ sat) (or_dissat dissat v sat)
-    ∷ ask x (w ⊗ sat) Prob.None
+    ∷ ask x (w ⊗ sat) None
     ∷ ask y (w ⊗ sat) (or_dissat dissat v sat)
-    ∷ ask y (w ⊗ sat) Prob.None
+    ∷ ask y (w ⊗ sat) None
     ∷ ask other (v ⊗ sat) dissat
     ∷ []
 
@@ -87,15 +85,15 @@ and_or_pairings w v = pairing 55 0 3 4 w v ∷ pairing 55 2 1 4 w v ∷ []
 
 -- ---- Or of l and r: each side four times, as it may be dissatisfied
 
-abbrev pub side_asks : ℕ → Float → DissatProb → (w v : Float) → List Ask
+abbrev pub side_asks : ℕ → Float → Option Float → (w v : Float) → List Ask
 side_asks r sat dissat w v =
     ask r (w ⊗ sat) (or_dissat dissat v sat)
-    ∷ ask r (w ⊗ sat) (Prob.Some (v ⊗ sat))
+    ∷ ask r (w ⊗ sat) (Some (v ⊗ sat))
     ∷ ask r (w ⊗ sat) dissat
-    ∷ ask r (w ⊗ sat) Prob.None
+    ∷ ask r (w ⊗ sat) None
     ∷ []
 
-abbrev pub or_asks : (l r : ℕ) → Float → DissatProb → (lw rw : Float) → List Ask
+abbrev pub or_asks : (l r : ℕ) → Float → Option Float → (lw rw : Float) → List Ask
 or_asks l r sat dissat lw rw = side_asks l sat dissat lw rw ++ side_asks r sat dissat rw lw
 
 abbrev pub or_pairings : (lw rw : Float) → List Pairing

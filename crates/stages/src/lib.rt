@@ -7,8 +7,6 @@
 ghost use Rattle.std.specs.Prelude.{◌≡◌, take};
 ghost use Rattle.stages.specs.Stages.{ask, pairing, and_asks, and_pairings, or_asks, or_pairings, and_or_asks, and_or_pairings, or_dissat};
 
-use costs::DissatProb;
-
 // The kinds of pairs and triples.
 const AND_B: u16 = 49;
 
@@ -32,7 +30,7 @@ const FALSE: u8 = 8;
 pub struct Ask {
     pub r: usize,
     pub sat: f64,
-    pub dissat: DissatProb,
+    pub dissat: Option<f64>,
 }
 
 // One pairing: its kind, the places of the tables that it pairs, and the weights of its sides. A pair has no third.
@@ -46,7 +44,7 @@ pub struct Pairing {
     pub rw: f64,
 }
 
-fn one_ask(r: usize, sat: f64, dissat: DissatProb) -> Ask
+fn one_ask(r: usize, sat: f64, dissat: Option<f64>) -> Ask
     ensures { result ≡ ask r sat dissat }
 {
     Ask { r, sat, dissat }
@@ -79,14 +77,14 @@ fn triple(first: u8, second: u8, third: u8, lw: f64, rw: f64) -> Pairing
 }
 
 // The searches of an And of l and r.
-pub fn and_asks(l: usize, r: usize, sat: f64, dissat: DissatProb) -> [Ask; 8]
+pub fn and_asks(l: usize, r: usize, sat: f64, dissat: Option<f64>) -> [Ask; 8]
     ensures { take 4 result ≡ and_asks l r sat dissat }
 {
-    let none = one_ask(l, sat, DissatProb::None);
+    let none = one_ask(l, sat, None);
     let mut asks = [none; 8];
     asks[0] = one_ask(l, sat, dissat);
     asks[1] = one_ask(r, sat, dissat);
-    asks[2] = one_ask(r, sat, DissatProb::None);
+    asks[2] = one_ask(r, sat, None);
     asks
 }
 
@@ -104,13 +102,10 @@ pub fn and_pairings() -> [Pairing; 10]
 }
 
 // The dissatisfaction probability of a side of an Or that may be dissatisfied with the whole, or when the other side, of weight v, is taken.
-fn or_dissat(dissat: DissatProb, v: f64, sat: f64) -> DissatProb
+fn or_dissat(dissat: Option<f64>, v: f64, sat: f64) -> Option<f64>
     ensures { result ≡ or_dissat dissat v sat }
 {
-    match dissat {
-        DissatProb::Some(d) => DissatProb::Some(d + v * sat),
-        DissatProb::None => DissatProb::Some(0.0 + v * sat),
-    }
+    Some(dissat.unwrap_or(0.0) + v * sat)
 }
 
 // The searches of an Or one side of which, of weight w, is an And of x and y; the other has weight v.
@@ -119,7 +114,7 @@ pub fn and_or_asks(
     y: usize,
     other: usize,
     sat: f64,
-    dissat: DissatProb,
+    dissat: Option<f64>,
     w: f64,
     v: f64,
 ) -> [Ask; 8]
@@ -127,9 +122,9 @@ pub fn and_or_asks(
 {
     let both = or_dissat(dissat, v, sat);
     let mut asks = [one_ask(x, w * sat, both); 8];
-    asks[1] = one_ask(x, w * sat, DissatProb::None);
+    asks[1] = one_ask(x, w * sat, None);
     asks[2] = one_ask(y, w * sat, both);
-    asks[3] = one_ask(y, w * sat, DissatProb::None);
+    asks[3] = one_ask(y, w * sat, None);
     asks[4] = one_ask(other, v * sat, dissat);
     asks
 }
@@ -144,33 +139,35 @@ pub fn and_or_pairings(w: f64, v: f64) -> [Pairing; 10]
 }
 
 // The searches of an Or of l and r.
-pub fn or_asks(l: usize, r: usize, sat: f64, dissat: DissatProb, lw: f64, rw: f64) -> [Ask; 8]
+pub fn or_asks(l: usize, r: usize, sat: f64, dissat: Option<f64>, lw: f64, rw: f64) -> [Ask; 8]
     ensures { result ≡ or_asks l r sat dissat lw rw }
 {
-    let mut asks = [one_ask(l, lw * sat, or_dissat(dissat, rw, sat)); 8];
-    asks[1] = one_ask(l, lw * sat, DissatProb::Some(rw * sat));
-    asks[2] = one_ask(l, lw * sat, dissat);
-    asks[3] = one_ask(l, lw * sat, DissatProb::None);
-    asks[4] = one_ask(r, rw * sat, or_dissat(dissat, lw, sat));
-    asks[5] = one_ask(r, rw * sat, DissatProb::Some(lw * sat));
-    asks[6] = one_ask(r, rw * sat, dissat);
-    asks[7] = one_ask(r, rw * sat, DissatProb::None);
-    asks
+    [
+        one_ask(l, lw * sat, or_dissat(dissat, rw, sat)),
+        one_ask(l, lw * sat, Some(rw * sat)),
+        one_ask(l, lw * sat, dissat),
+        one_ask(l, lw * sat, None),
+        one_ask(r, rw * sat, or_dissat(dissat, lw, sat)),
+        one_ask(r, rw * sat, Some(lw * sat)),
+        one_ask(r, rw * sat, dissat),
+        one_ask(r, rw * sat, None),
+    ]
 }
 
 // The pairings of an Or.
 pub fn or_pairings(lw: f64, rw: f64) -> [Pairing; 10]
     ensures { result ≡ or_pairings lw rw }
 {
-    let mut pairings = [pair(OR_B, 0, 4, lw, rw); 10];
-    pairings[1] = pair(OR_B, 4, 0, rw, lw);
-    pairings[2] = pair(OR_D, 0, 6, lw, rw);
-    pairings[3] = pair(OR_D, 4, 2, rw, lw);
-    pairings[4] = pair(OR_C, 1, 7, lw, rw);
-    pairings[5] = pair(OR_C, 5, 3, rw, lw);
-    pairings[6] = pair(OR_I, 2, 7, lw, rw);
-    pairings[7] = pair(OR_I, 6, 3, rw, lw);
-    pairings[8] = pair(OR_I, 3, 6, lw, rw);
-    pairings[9] = pair(OR_I, 7, 2, rw, lw);
-    pairings
+    [
+        pair(OR_B, 0, 4, lw, rw),
+        pair(OR_B, 4, 0, rw, lw),
+        pair(OR_D, 0, 6, lw, rw),
+        pair(OR_D, 4, 2, rw, lw),
+        pair(OR_C, 1, 7, lw, rw),
+        pair(OR_C, 5, 3, rw, lw),
+        pair(OR_I, 2, 7, lw, rw),
+        pair(OR_I, 6, 3, rw, lw),
+        pair(OR_I, 3, 6, lw, rw),
+        pair(OR_I, 7, 2, rw, lw),
+    ]
 }

@@ -5,8 +5,7 @@ use Prim.Native.Nat.{ℕ}
 use native.Mathlib.Omega.{arith}
 use lib.ListN.{take}
 use Rattle.writing.specs.WellFormed.{AllBelow}
-use Rattle.memory.specs.Layout.{node_count}
-use Rattle.nodes.specs.Views.{seen, seen_all}
+use Rattle.nodes.specs.Views.{seen}
 use Rattle.nodes.specs.Answers.{Holds, Grows}
 use Rattle.nodes.proofs.Grown.{grows-refl, grows-trans, tables-refl, tables-trans, seen-kept}
 use Rattle.table.specs.declared.Table.{Table}
@@ -41,6 +40,3 @@ no_rows t e = ap (λ (n : ℕ). take n t.entries) e
 pub empty_holds : (m : List ℕ) (t : Table) → t.len ≡ 0 → TableHolds m t
 unfolding AllBelow
 empty_holds m t e = record { few = omega arith; below = rw (no_rows t e) tt }
-
-pub empty-seen : (pol m : List ℕ) (t : Table) → t.len ≡ 0 → seen_table pol m t ≡ []
-empty-seen pol m t e = ap (seen_all pol m) (no_rows t e)

@@ -1,6 +1,8 @@
 -- Nothing better was thrown away of the table in work memory (specs/NothingBetter.antt): offers in turn are the definition's. Assumes nothing.
+use Rattle.refusals.specs.declared.Refusal.{Refusal}
+use Rattle.std.specs.Prelude.{Result, Ok, Err}
 use mathlib.Core.Bool.{Bool, true, false}
-use mathlib.Core.List.{List, [], ◌∷◌, map}
+use mathlib.Core.List.{List, [], map}
 use mathlib.Core.Path.{◌≡◌, refl, ap, ◌∙◌}
 use Prim.Native.Nat.{ℕ}
 use lib.ListN.{take}
@@ -8,28 +10,26 @@ use Rattle.contexts.specs.declared.Context.{Context}
 use Rattle.definition.specs.Candidates.{Candidate}
 use Rattle.definition.specs.Tables as definition-tables
 use Rattle.definition.specs.Tables.{Probs}
-use Rattle.definition.specs.Refusals.{State, Res, done, then}
-use Rattle.definition.specs.Insertion.{Offered}
+use Rattle.definition.specs.Refusals.{State, done}
 use Rattle.definition_laws.specs.NothingBetter.{offers}
 use Rattle.definition_laws.proofs.Steps.{then-done}
 use Rattle.definition_laws.proofs.NothingBetter.{nothing-thrown-away}
 use Rattle.nodes.specs.Views.{seen}
 use Rattle.table.specs.declared.Table.{Table}
 use Rattle.table.specs.declared.Offer.{Offer}
-use Rattle.table.specs.declared.Offer.TheVariants.{Entered, TurnedAway, Refused}
 use Rattle.table.specs.Inserted.{state_of, seen_table, offer_answer}
 use Rattle.table.specs.NothingBetter.{NotRefused, InTurn, nobody, offer, NothingThrownAwayInMemory}
 
-abbrev took_one : Offer → Bool
-took_one Entered = true
-took_one TurnedAway = false
-took_one (Refused n) = false
+abbrev took_one : Result Offer Refusal → Bool
+took_one (Ok Offer.Entered) = true
+took_one (Ok Offer.TurnedAway) = false
+took_one (Err n) = false
 
-answers : (o : Offer) (t : definition-tables.Table) (s : State) → NotRefused o →
+answers : (o : Result Offer Refusal) (t : definition-tables.Table) (s : State) → NotRefused o →
     offer_answer o t s ≡ done (record { table = t; accepted = took_one o }) s
-answers Entered t s h = refl
-answers TurnedAway t s h = refl
-answers (Refused n) t s h = absurd h
+answers (Ok Offer.Entered) t s h = refl
+answers (Ok Offer.TurnedAway) t s h = refl
+answers (Err n) t s h = absurd h
 
 -- offers in turn, in memory, are offers in turn by the definition
 in-turn : (c : Context) (p : Probs) (pol m' : List ℕ) (t' : Table) {m : List ℕ} {t : Table} {xs : List Candidate} →

@@ -1,4 +1,6 @@
 -- An offer to a table, case by case: what the tests of the code say gives what the definition of insertion answers. Assumes nothing.
+use Rattle.refusals.specs.declared.Refusal.TheVariants as Refusal
+use Rattle.std.specs.Prelude.{Option, None, Some, Ok, Err}
 use mathlib.Core.Path.{◌≡◌, refl, sym, ◌∙◌, ap, subst}
 use mathlib.Core.List.{List}
 use mathlib.Core.Bool.{Bool, true, false, cond, ◌&&◌, true≢false}
@@ -20,8 +22,6 @@ use Rattle.definition.specs.Tables.{Probs, cost_at, enter}
 use Rattle.definition.specs.Refusals.{state, Stored, done, max_accepted}
 use Rattle.definition.specs.Insertion.{any, beats, worthwhile, insert}
 use Rattle.definition_laws.proofs.Steps.{unbeaten, insert-unworthy, insert-costless, insert-beaten, insert-table-full, insert-nodes-full, insert-enters}
-use Rattle.nodes.specs.declared.Added.{Added}
-use Rattle.nodes.specs.declared.Added.TheVariants.{At, Full}
 use Rattle.memory.specs.Layout.{node_count, max_nodes, max_entries}
 use Rattle.nodes.specs.Views.{seen, seen_all, offered}
 use Rattle.nodes.specs.Answers.{Holds, OneMore, Adds, full, at}
@@ -29,7 +29,7 @@ use Rattle.nodes.specs.Offers.{Offerable}
 use Rattle.nodes.proofs.Valid.{worthwhile-is, cost-is}
 use Rattle.table.specs.declared.Table.{Table}
 use Rattle.table.specs.declared.Priced.{Priced}
-use Rattle.table.specs.declared.Offer.TheVariants.{Entered, TurnedAway, Refused}
+use Rattle.table.specs.declared.Offer.TheVariants as Offer
 use Rattle.table.specs.Rows.{rows, Rows, TableHolds, priced_as, key_of, any_of, those, beats_it, stands, enter_at, turns_away}
 use Rattle.table.specs.Inserted.{state_of, seen_table, Inserted}
 use Rattle.table.proofs.Loops.{rows-length}
@@ -41,7 +41,7 @@ offered-small o = candidate-small o.candidate (omega arith)
 
 -- ---- what adding a node answered
 
-pub added_full : {m₀ m : List ℕ} {x : code.Candidate} {r : Added} → Adds m₀ m x r → r ≡ Full → (node_count m₀ ≡ max_nodes) × (m ≡ m₀)
+pub added_full : {m₀ m : List ℕ} {x : code.Candidate} {r : Option ℕ} → Adds m₀ m x r → r ≡ None → (node_count m₀ ≡ max_nodes) × (m ≡ m₀)
 added_full (full f same) is = (f, same)
 added_full (at e room more) is = absurd (let z : ◌≡◌ {A = ℕ} 0 1 = cc in omega arith)
 
@@ -50,7 +50,7 @@ pub record AddedAt (m₀ m : List ℕ) (x : code.Candidate) (e : ℕ) : Type 0 w
   pub room : node_count m₀ < max_nodes
   pub more : OneMore m₀ m x
 
-pub added-at : {m₀ m : List ℕ} {x : code.Candidate} {r : Added} {e : ℕ} → Adds m₀ m x r → r ≡ At e → AddedAt m₀ m x e
+pub added-at : {m₀ m : List ℕ} {x : code.Candidate} {r : Option ℕ} {e : ℕ} → Adds m₀ m x r → r ≡ Some e → AddedAt m₀ m x e
 added-at (full f same) is = absurd (let z : ◌≡◌ {A = ℕ} 0 1 = cc in omega arith)
 added-at {e} (at {e = k} number room more) is = let same : k ≡ e = cc in record { number = sym same ∙ number; room = room; more = more }
 
@@ -89,20 +89,20 @@ module _ {c : Context} {p : Probs} {x : code.Candidate} {t : Table} {m : List �
   -- the table is as it was
   stays : ((pol : List ℕ) (ts : List Stored) →
       insert c p (offered pol m x) (seen_table pol m t) (state_of m ts) ≡ done (record { table = seen_table pol m t; accepted = false }) (state_of m ts)) →
-      Inserted c p x t (record { table = t; offer = TurnedAway }) m m
+      Inserted c p x t (record { table = t; offer = Ok Offer.TurnedAway }) m m
   stays says = record { says = says; extends = extends-refl h; table = th; next = refl }
 
-  pub malleable : x.ty.mall.non_malleable ≡ false → Inserted c p x t (record { table = t; offer = TurnedAway }) m m
+  pub malleable : x.ty.mall.non_malleable ≡ false → Inserted c p x t (record { table = t; offer = Ok Offer.TurnedAway }) m m
   malleable n =
       stays (λ pol ts. insert-unworthy c p (offered pol m x) (seen_table pol m t) (state_of m ts)
       (worthwhile-is pol m x c ∙ rw n))
 
   pub invalid : x.ty.mall.non_malleable ≡ true → check_local_validity c x.kind x.ext ≡ false
-      → Inserted c p x t (record { table = t; offer = TurnedAway }) m m
+      → Inserted c p x t (record { table = t; offer = Ok Offer.TurnedAway }) m m
   invalid n v =
       stays (λ pol ts. insert-unworthy c p (offered pol m x) (seen_table pol m t) (state_of m ts) (worthwhile-is pol m x c ∙ rw (n, v)))
 
-  pub too-tall : max_height ≤ x.ext.tree_height → Inserted c p x t (record { table = t; offer = TurnedAway }) m m
+  pub too-tall : max_height ≤ x.ext.tree_height → Inserted c p x t (record { table = t; offer = Ok Offer.TurnedAway }) m m
   too-tall h =
       stays (λ pol ts. insert-unworthy c p (offered pol m x) (seen_table pol m t) (state_of m ts)
       (worthwhile-is pol m x c
@@ -114,7 +114,7 @@ module _ {c : Context} {p : Probs} {x : code.Candidate} {t : Table} {m : List �
       and-false false h = refl
 
   pub costless : {y : Priced} → Worth c x → y ≡ priced_as p x → is_price y.cost ≡ false
-      → Inserted c p x t (record { table = t; offer = Refused 10 }) m m
+      → Inserted c p x t (record { table = t; offer = Err Refusal.NotACost }) m m
   costless w priced i =
       record {
         says =
@@ -134,7 +134,7 @@ module _ {c : Context} {p : Probs} {x : code.Candidate} {t : Table} {m : List �
     beats-any : (pol : List ℕ) → any (λ e. beats p e (offered pol m x)) (seen_table pol m t) ≡ any_of (beats_it m p y) (rows t)
     beats-any pol = any_seen pol m p (offered pol m x) y (compared-by pol) (rows t) th.below
 
-    pub loses : true ≡ any_of (beats_it m p y) (rows t) → Inserted c p x t (record { table = t; offer = TurnedAway }) m m
+    pub loses : true ≡ any_of (beats_it m p y) (rows t) → Inserted c p x t (record { table = t; offer = Ok Offer.TurnedAway }) m m
     loses b =
         stays (λ pol ts. insert-beaten c p (offered pol m x) (seen_table pol m t) (state_of m ts) (is-worth w pol m) (cost pol)
         (beats-any pol ∙ sym b))
@@ -159,7 +159,7 @@ module _ {c : Context} {p : Probs} {x : code.Candidate} {t : Table} {m : List �
                 (below-those (node_count m) (stands m p y) (rows t) th.below);
           }
 
-      pub table-full : u.len ≡ max_entries → Inserted c p x t (record { table = u; offer = Refused 7 }) m m
+      pub table-full : u.len ≡ max_entries → Inserted c p x t (record { table = u; offer = Err Refusal.TableFull }) m m
       table-full f =
           record {
             says =
@@ -177,9 +177,9 @@ module _ {c : Context} {p : Probs} {x : code.Candidate} {t : Table} {m : List �
             (omega (arith, left-length pol, l.are.few, f))
 
         -- no node was added
-        pub nodes-full : {m' : List ℕ} → (node_count m ≡ max_nodes) × (m' ≡ m) → Inserted c p x t (record { table = u; offer = Refused 6 }) m m'
+        pub nodes-full : {m' : List ℕ} → (node_count m ≡ max_nodes) × (m' ≡ m) → Inserted c p x t (record { table = u; offer = Err Refusal.NodesFull }) m m'
         nodes-full e =
-            subst (λ (m' : List ℕ). Inserted c p x t (record { table = u; offer = Refused 6 }) m m') (sym e.1)
+            subst (λ (m' : List ℕ). Inserted c p x t (record { table = u; offer = Err Refusal.NodesFull }) m m') (sym e.1)
             (record {
               says =
                   λ pol ts. insert-nodes-full c p (offered pol m x) (seen_table pol m t) (state_of m ts) (is-worth w pol m) (cost pol)
@@ -205,7 +205,7 @@ module _ {c : Context} {p : Probs} {x : code.Candidate} {t : Table} {m : List �
           counted : suc (node_count m - 2) ≡ node_count m' - 2
           counted = omega (arith, a.more.count, h.two)
 
-          pub enters : Inserted c p x t (record { table = z; offer = Entered }) m m'
+          pub enters : Inserted c p x t (record { table = z; offer = Ok Offer.Entered }) m m'
           enters =
               record {
                 says =
@@ -229,22 +229,22 @@ module _ {c : Context} {p : Probs} {x : code.Candidate} {t : Table} {m : List �
 module _ {c : Context} {p : Probs} {x : code.Candidate} {t : Table} {m : List ℕ} (h : Holds m) (th : TableHolds m t) where
   beaten-turned : (valid tall : Bool) → check_local_validity c x.kind x.ext ≡ valid → leb max_height x.ext.tree_height ≡ tall
       → x.ty.mall.non_malleable ≡ true → is_price (priced_as p x).cost ≡ true → any_of (beats_it m p (priced_as p x)) (rows t) ≡ true
-      → Inserted c p x t (record { table = t; offer = TurnedAway }) m m
+      → Inserted c p x t (record { table = t; offer = Ok Offer.TurnedAway }) m m
   beaten-turned false tall v l n i b = invalid h th n v
   beaten-turned true true v l n i b = too-tall h th (leb-true max_height x.ext.tree_height l)
   beaten-turned true false v l n i b =
       loses h th (record { sound = n; valid = v; low = leb-false max_height x.ext.tree_height l }) (record { priced = refl; cost = i }) (sym b)
 
   by-cost : (cost : Bool) → is_price (priced_as p x).cost ≡ cost → x.ty.mall.non_malleable ≡ true
-      → cond cost (any_of (beats_it m p (priced_as p x)) (rows t)) false ≡ true → Inserted c p x t (record { table = t; offer = TurnedAway }) m m
+      → cond cost (any_of (beats_it m p (priced_as p x)) (rows t)) false ≡ true → Inserted c p x t (record { table = t; offer = Ok Offer.TurnedAway }) m m
   by-cost true i n b = beaten-turned (check_local_validity c x.kind x.ext) (leb max_height x.ext.tree_height) refl refl n i b
   by-cost false i n b = absurd (true≢false (sym b))
 
   by-type : (sound : Bool) → x.ty.mall.non_malleable ≡ sound
       → cond sound (cond (is_price (priced_as p x).cost) (any_of (beats_it m p (priced_as p x)) (rows t)) false) true ≡ true
-      → Inserted c p x t (record { table = t; offer = TurnedAway }) m m
+      → Inserted c p x t (record { table = t; offer = Ok Offer.TurnedAway }) m m
   by-type true n b = by-cost (is_price (priced_as p x).cost) refl n b
   by-type false n b = malleable h th n
 
-  pub turned-away : turns_away m p (priced_as p x) (rows t) ≡ true → Inserted c p x t (record { table = t; offer = TurnedAway }) m m
+  pub turned-away : turns_away m p (priced_as p x) (rows t) ≡ true → Inserted c p x t (record { table = t; offer = Ok Offer.TurnedAway }) m m
   turned-away b = by-type x.ty.mall.non_malleable refl b

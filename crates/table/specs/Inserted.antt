@@ -1,8 +1,9 @@
 -- What an offer to a table leaves, by the definition of insertion (definition, specs/Insertion.antt) on what nodes stand for. Assumes nothing.
-use Rattle.std.specs.Prelude.{Bool, true, false, List, ◌≡◌, ℕ, suc, ◌-◌}
+use Rattle.refusals.specs.Numbers.{number_of}
+use Rattle.refusals.specs.declared.Refusal.{Refusal}
+use Rattle.std.specs.Prelude.{true, false, List, ◌≡◌, ℕ, suc, ◌-◌, Result, Ok, Err}
 use Rattle.contexts.specs.declared.Context.{Context}
 use Rattle.candidates.specs.declared.Candidate as code
-use Rattle.definition.specs.Candidates as definition
 use Rattle.definition.specs.Tables as definition-tables
 use Rattle.definition.specs.Tables.{Probs}
 use Rattle.definition.specs.Refusals.{State, state, Stored, Res, done, refused}
@@ -12,7 +13,6 @@ use Rattle.nodes.specs.Views.{seen, seen_all, offered}
 use Rattle.nodes.specs.Answers.{Holds, Grows, SameTables}
 use Rattle.table.specs.declared.Table.{Table}
 use Rattle.table.specs.declared.Offer.{Offer}
-use Rattle.table.specs.declared.Offer.TheVariants.{Entered, TurnedAway, Refused}
 use Rattle.table.specs.declared.Step.{Step}
 use Rattle.table.specs.Rows.{rows, TableHolds}
 
@@ -23,16 +23,16 @@ state_of m ts = state (node_count m - 2) ts
 abbrev pub seen_table : (pol m : List ℕ) → Table → definition-tables.Table
 seen_table pol m t = seen_all pol m (rows t)
 
-abbrev pub offer_answer : Offer → definition-tables.Table → State → Res Offered
-offer_answer Entered t s = done (record { table = t; accepted = true }) s
-offer_answer TurnedAway t s = done (record { table = t; accepted = false }) s
-offer_answer (Refused n) t s = refused n
+abbrev pub offer_answer : Result Offer Refusal → definition-tables.Table → State → Res Offered
+offer_answer (Ok Offer.Entered) t s = done (record { table = t; accepted = true }) s
+offer_answer (Ok Offer.TurnedAway) t s = done (record { table = t; accepted = false }) s
+offer_answer (Err n) t s = refused (number_of n)
 
 -- an accepted candidate is the next node
-abbrev pub NextNode : Offer → code.Candidate → (m₀ m : List ℕ) → Type 0
-NextNode Entered x m₀ m = (node_count m ≡ suc (node_count m₀)) × ((pol : List ℕ) → seen pol m (node_count m₀) ≡ offered pol m₀ x)
-NextNode TurnedAway x m₀ m = node_count m ≡ node_count m₀
-NextNode (Refused n) x m₀ m = Unit {0}
+abbrev pub NextNode : Result Offer Refusal → code.Candidate → (m₀ m : List ℕ) → Type 0
+NextNode (Ok Offer.Entered) x m₀ m = (node_count m ≡ suc (node_count m₀)) × ((pol : List ℕ) → seen pol m (node_count m₀) ≡ offered pol m₀ x)
+NextNode (Ok Offer.TurnedAway) x m₀ m = node_count m ≡ node_count m₀
+NextNode (Err n) x m₀ m = Unit {0}
 
 -- nodes are only appended, tables that are remembered stay, and no row is added
 pub record Extends (m₀ m : List ℕ) : Type 0 where

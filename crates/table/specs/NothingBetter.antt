@@ -1,6 +1,7 @@
 -- Nothing better was thrown away of the table in work memory either: document 02, R-12, by what each offer leaves (Inserted.antt) and the theorem on
 -- the definition's table (definition_laws, specs/NothingBetter.antt). Assumes nothing.
-use Rattle.std.specs.Prelude.{List, [], ◌∷◌, ◌≡◌, ℕ}
+use Rattle.refusals.specs.declared.Refusal.{Refusal}
+use Rattle.std.specs.Prelude.{List, [], ◌∷◌, ◌≡◌, ℕ, Result, Ok, Err}
 use Rattle.contexts.specs.declared.Context.{Context}
 use Rattle.candidates.specs.declared.Candidate as code
 use Rattle.definition.specs.Candidates.{Candidate}
@@ -9,14 +10,13 @@ use Rattle.definition_laws.specs.NothingBetter.{NothingBetter}
 use Rattle.nodes.specs.Views.{offered}
 use Rattle.table.specs.declared.Table.{Table}
 use Rattle.table.specs.declared.Offer.{Offer}
-use Rattle.table.specs.declared.Offer.TheVariants.{Entered, TurnedAway, Refused}
 use Rattle.table.specs.declared.Step.{Step}
 use Rattle.table.specs.Inserted.{Inserted, seen_table}
 
-abbrev pub NotRefused : Offer → Type 0
-NotRefused Entered = Unit {0}
-NotRefused TurnedAway = Unit {0}
-NotRefused (Refused n) = ⊥
+abbrev pub NotRefused : Result Offer Refusal → Type 0
+NotRefused (Ok Offer.Entered) = Unit {0}
+NotRefused (Ok Offer.TurnedAway) = Unit {0}
+NotRefused (Err n) = ⊥
 
 -- the memory and the table that offers leave, one after another, of which none is refused; with the candidates that were offered
 pub data InTurn (c : Context) (p : Probs) (pol m' : List ℕ) (t' : Table) : (m : List ℕ) → Table → List Candidate → Type 0 where

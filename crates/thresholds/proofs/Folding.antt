@@ -1,4 +1,5 @@
 -- The loop of `worst`. Assumes nothing.
+use Rattle.std.specs.Prelude.{Option, None, Some}
 use mathlib.Core.Path.{◌≡◌, ◌∙◌, ap}
 use mathlib.Core.Bool.{Bool, true, false, cond}
 use mathlib.Core.List.{List, [], ◌∷◌, reverse, reverse-append}
@@ -8,14 +9,12 @@ use lib.Dec.{leb, ltb}
 use lib.ListN.{length, get_or, take}
 use lib.Seq.{take-suc, get_or-take, length-take-le, take-take}
 use Rattle.figures.specs.declared.SatData.{SatData}
-use Rattle.figures.specs.declared.Sat.{Sat}
 use Rattle.figures.specs.declared.ExtData.{ExtData}
 use Rattle.figures.specs.Bounds.{WithinData, WithinSat, Within}
 use Rattle.figures.specs.Rules.{num}
 use Rattle.figures.proofs.Few.{max-le, num-le}
 use Rattle.thresholds.specs.declared.Figure.{Figure}
 use Rattle.thresholds.specs.declared.Figure.TheVariants.{WitnessCount, WitnessSize, ScriptSigSize, ExecStack, ExecOps}
-use Rattle.thresholds.specs.declared.Count.{Count}
 use Rattle.thresholds.specs.Threshold.{proj, add, chosen, add_sat, add_child, try_fold, worst, Child, Children, Upto}
 use Rattle.thresholds.proofs.Insertion.{blank, children-get}
 
@@ -49,33 +48,33 @@ add-le ExecStack acc x =
     max-le acc (x + num (ltb 0 acc)) {n = acc + x + 1} (omega arith) (omega (arith, num-le (ltb 0 acc)))
 add-le ExecOps acc x = omega arith
 
-cond-within : (b : Bool) (n : ℕ) (x y : Sat) → WithinSat n x → WithinSat n y → WithinSat n (cond b x y)
+cond-within : (b : Bool) (n : ℕ) (x y : Option SatData) → WithinSat n x → WithinSat n y → WithinSat n (cond b x y)
 cond-within true n x y p q = p
 cond-within false n x y p q = q
 
-add-sat-upto : (f : Figure) (acc n : ℕ) (s : Sat) → WithinSat n s → {bound : ℕ} → acc ≤ bound → Upto (bound + times f * n + 1) (add_sat f acc s)
-add-sat-upto f acc n Sat.None w le = tt
-add-sat-upto f acc n (Sat.Some d) w {bound} le =
+add-sat-upto : (f : Figure) (acc n : ℕ) (s : Option SatData) → WithinSat n s → {bound : ℕ} → acc ≤ bound → Upto (bound + times f * n + 1) (add_sat f acc s)
+add-sat-upto f acc n None w le = tt
+add-sat-upto f acc n (Some d) w {bound} le =
     omega (arith, add-le f acc (proj f d), proj-within f n d w)
 
 -- one more child adds at most its share, and 1
-pub add-child-upto : (f : Figure) (k i : ℕ) (c : Count) (x : ExtData) → Within x → (bound : ℕ) → Upto bound c
+pub add-child-upto : (f : Figure) (k i : ℕ) (c : Option ℕ) (x : ExtData) → Within x → (bound : ℕ) → Upto bound c
     → Upto (bound + times f * x.pk_cost + 1) (add_child f k i c x)
-add-child-upto f k i Count.None x w bound u = tt
-add-child-upto f k i (Count.Some acc) x w bound u =
+add-child-upto f k i None x w bound u = tt
+add-child-upto f k i (Some acc) x w bound u =
     add-sat-upto f acc x.pk_cost (chosen k i x)
     (cond-within (leb i k) x.pk_cost x.sat_data x.dissat_data w.sat w.dissat) u
 
-pub upto-more : (c : Count) (m n : ℕ) → m ≤ n → Upto m c → Upto n c
-upto-more Count.None m n le u = tt
-upto-more (Count.Some a) m n le u = omega arith
+pub upto-more : (c : Option ℕ) (m n : ℕ) → m ≤ n → Upto m c → Upto n c
+upto-more None m n le u = tt
+upto-more (Some a) m n le u = omega arith
 
 -- the last of so many children is the first of the reverse
 last-first : (l : List ExtData) (m : ℕ) → m < length l → reverse (take (suc m) l) ≡ get_or l m blank ∷ reverse (take m l)
 last-first l m lt = rw (take-suc l m blank lt) (reverse-append (take m l) (get_or l m blank ∷ []))
 
 -- the loop: j children are still to come, from the last of them
-pub record WorstInv (f : Figure) (k n : ℕ) (subs : List ExtData) (c : Count) (j : ℕ) : Type 0 where
+pub record WorstInv (f : Figure) (k n : ℕ) (subs : List ExtData) (c : Option ℕ) (j : ℕ) : Type 0 where
   pub within : j ≤ n
   pub few : n ≤ 16
   pub long : length subs ≡ 16
@@ -84,7 +83,7 @@ pub record WorstInv (f : Figure) (k n : ℕ) (subs : List ExtData) (c : Count) (
   pub rest : try_fold f k (n - j) c (reverse (take j (take n subs))) ≡ worst f k (take n subs)
 
 pub worst-start : (f : Figure) (k n : ℕ) (subs : List ExtData) → length subs ≡ 16 → (n ≤ 16) × Children (take n subs)
-    → WorstInv f k n subs (Count.Some 0) n
+    → WorstInv f k n subs (Some 0) n
 unfolding worst
 worst-start f k n subs long p =
     let z : n - n ≡ 0 = omega arith in
@@ -97,7 +96,7 @@ worst-start f k n subs long p =
       rest = rw (z, take-take n n subs (omega arith));
     }
 
-module _ {f : Figure} {k n : ℕ} {subs : List ExtData} {c : Count} {j : ℕ} (v : WorstInv f k n subs c j) where
+module _ {f : Figure} {k n : ℕ} {subs : List ExtData} {c : Option ℕ} {j : ℕ} (v : WorstInv f k n subs c j) where
   pub worst-small : Upto 0xffff_ffff c
   worst-small = upto-more c (20000001 * (n - j)) 0xffff_ffff (omega (arith, v.few)) v.upto
 
@@ -108,7 +107,7 @@ module _ {f : Figure} {k n : ℕ} {subs : List ExtData} {c : Count} {j : ℕ} (v
         let h : j - 1 < n = omega (arith, v.within) in
         rw (← get_or-take n subs (j - 1) blank h) (children-get (take n subs) (j - 1) blank v.all (omega arith))
 
-    pub worst-on : (r : Count) → r ≡ add_child f k (n - j) c (get_or subs (j - 1) blank) → WorstInv f k n subs r (j - 1)
+    pub worst-on : (r : Option ℕ) → r ≡ add_child f k (n - j) c (get_or subs (j - 1) blank) → WorstInv f k n subs r (j - 1)
     unfolding try_fold
     worst-on r e =
         let l : length (take n subs) ≡ n = length-take-le n subs (omega (arith, v.few, v.long)) in

@@ -1,4 +1,6 @@
 -- What `thresh` makes of at most 16 children that have entered is a candidate. Assumes nothing.
+use Rattle.figures.specs.declared.SatData.{SatData}
+use Rattle.std.specs.Prelude.{Option, None, Some}
 use mathlib.Core.Path.{◌≡◌, refl, ◌∙◌, ap}
 use mathlib.Core.Bool.{Bool, true, false, cond}
 use mathlib.Core.List.{List, [], ◌∷◌, ◌++◌, reverse, reverse-cons}
@@ -6,7 +8,6 @@ use Prim.Native.Nat.{ℕ, suc, ◌+◌, ◌*◌, ◌-◌, ◌<◌, ◌≤◌}
 use native.Mathlib.Nat.{mul-add}
 use native.Mathlib.Omega.{arith}
 use lib.ListN.{length, get_or}
-use Rattle.figures.specs.declared.Sat.{Sat}
 use Rattle.figures.specs.declared.ExtData.{ExtData}
 use Rattle.figures.specs.Bounds.{Entered, Candidate, Within, WithinSat}
 use Rattle.figures.specs.Rules.{max, sat_data, sat_concat, script_num_size}
@@ -16,7 +17,6 @@ use Rattle.figures.proofs.Within.{more, concat-within}
 use Rattle.figures.proofs.Entering.{entered-higher}
 use Rattle.thresholds.specs.declared.Figure.{Figure}
 use Rattle.thresholds.specs.declared.Figure.TheVariants.{WitnessCount, WitnessSize, ScriptSigSize, ExecStack, ExecOps}
-use Rattle.thresholds.specs.declared.Count.{Count}
 use Rattle.thresholds.specs.Threshold.{key, below, insert_by, sort_by, add_child, try_fold, worst, together, satisfied}
 use Rattle.thresholds.specs.Threshold.{costs, statics, heights, dissats, threshold, AllEntered, Children, Upto}
 use Rattle.thresholds.proofs.Insertion.{blank}
@@ -86,13 +86,13 @@ same-reverse (x ∷ xs) = rw (reverse-cons x xs) (same_then (same-last (reverse 
 
 -- the worst case of a figure
 
-fold-upto : (f : Figure) (k i : ℕ) (c : Count) (l : List ExtData) (bound : ℕ) → AllWithin l → Upto bound c
+fold-upto : (f : Figure) (k i : ℕ) (c : Option ℕ) (l : List ExtData) (bound : ℕ) → AllWithin l → Upto bound c
     → Upto (bound + times f * bytes l + length l) (try_fold f k i c l)
 unfolding try_fold bytes AllWithin
 fold-upto f k i c [] bound w u = upto-more c bound (bound + times f * 0 + 0) (omega arith) u
 fold-upto f k i c (x ∷ xs) bound w u =
     let n : ℕ = x.pk_cost in
-    let d : Count = add_child f k i c x in
+    let d : Option ℕ = add_child f k i c x in
     upto-more (try_fold f k (suc i) d xs) (bound + times f * n + 1 + times f * bytes xs + length xs)
     (bound + times f * (n + bytes xs) + suc (length xs)) (omega (arith, mul-add (times f) n (bytes xs)))
     (fold-upto f k (suc i) d xs (bound + times f * n + 1) w.1 (add-child-upto f k i c x w.0 bound u))
@@ -101,18 +101,18 @@ worst-upto : (f : Figure) (k : ℕ) (s l : List ExtData) → Same s l → AllWit
 unfolding worst
 worst-upto f k s l p w =
     let q : Same (reverse s) l = same_then (same-reverse s) p in
-    upto-more (try_fold f k 0 (Count.Some 0) (reverse s)) (0 + times f * bytes l + length l) (times f * bytes l + length l) (omega arith)
-    (rw (q.size, q.count) at (fold-upto f k 0 (Count.Some 0) (reverse s) 0 (q.keeps w) (omega arith)))
+    upto-more (try_fold f k 0 (Some 0) (reverse s)) (0 + times f * bytes l + length l) (times f * bytes l + length l) (omega arith)
+    (rw (q.size, q.count) at (fold-upto f k 0 (Some 0) (reverse s) 0 (q.keeps w) (omega arith)))
 
-together-within : (a b c d e : Count) (n : ℕ) → Upto (5 * n) a → Upto n b → Upto (5 * n) c → Upto n d → Upto n e
+together-within : (a b c d e : Option ℕ) (n : ℕ) → Upto (5 * n) a → Upto n b → Upto (5 * n) c → Upto n d → Upto n e
     → WithinSat n (together a b c d e)
 unfolding together
-together-within Count.None b c d e n p q r s t = tt
-together-within (Count.Some a) Count.None c d e n p q r s t = tt
-together-within (Count.Some a) (Count.Some b) Count.None d e n p q r s t = tt
-together-within (Count.Some a) (Count.Some b) (Count.Some c) Count.None e n p q r s t = tt
-together-within (Count.Some a) (Count.Some b) (Count.Some c) (Count.Some d) Count.None n p q r s t = tt
-together-within (Count.Some a) (Count.Some b) (Count.Some c) (Count.Some d) (Count.Some e) n p q r s t =
+together-within None b c d e n p q r s t = tt
+together-within (Some a) None c d e n p q r s t = tt
+together-within (Some a) (Some b) None d e n p q r s t = tt
+together-within (Some a) (Some b) (Some c) None e n p q r s t = tt
+together-within (Some a) (Some b) (Some c) (Some d) None n p q r s t = tt
+together-within (Some a) (Some b) (Some c) (Some d) (Some e) n p q r s t =
     record { size = p; count = q; sig = r; stack = s; ops = t }
 
 satisfied-within : (k : ℕ) (l : List ExtData) (n : ℕ) → AllWithin l → bytes l + length l ≤ n → WithinSat n (satisfied k l)
@@ -156,12 +156,12 @@ unfolding bytes AllWithin
 statics-within [] acc w = omega arith
 statics-within (x ∷ xs) acc w = omega (arith, statics-within xs (acc + x.static_ops) w.1, w.0.static)
 
-dissats-within : (l : List ExtData) (s : Sat) (n : ℕ) → AllWithin l → WithinSat n s → WithinSat (n + bytes l) (dissats s l)
+dissats-within : (l : List ExtData) (s : Option SatData) (n : ℕ) → AllWithin l → WithinSat n s → WithinSat (n + bytes l) (dissats s l)
 unfolding bytes AllWithin
 dissats-within [] s n w v = more s n (n + 0) (omega arith) v
 dissats-within (x ∷ xs) s n w v =
     let m : ℕ = x.pk_cost in
-    let t : Sat = sat_concat 0 s x.dissat_data in
+    let t : Option SatData = sat_concat 0 s x.dissat_data in
     more (dissats t xs) (n + m + 0 + bytes xs) (n + (m + bytes xs)) (omega arith)
     (dissats-within xs t (n + m + 0) w.1 (concat-within 0 s x.dissat_data n m v w.0.dissat))
 
@@ -176,13 +176,13 @@ threshold-candidate h k l one few e =
     let w : AllWithin l = all-within h l e in
     let c : costs (1 + script_num_size k) l ≡ 1 + script_num_size k + bytes l = costs-bytes l (1 + script_num_size k) in
     let n : ℕ = costs (1 + script_num_size k) l + length l - 1 in
-    let d : Sat = dissats (Sat.Some (sat_data 0 0 0 0 0)) l in
+    let d : Option SatData = dissats (Some (sat_data 0 0 0 0 0)) l in
     record {
       within =
           record {
             static = omega (arith, statics-within l 0 w);
             sat = satisfied-within k l n w (omega arith);
-            dissat = more d (0 + bytes l) n (omega arith) (dissats-within l (Sat.Some (sat_data 0 0 0 0 0)) 0 w (omega arith));
+            dissat = more d (0 + bytes l) n (omega arith) (dissats-within l (Some (sat_data 0 0 0 0 0)) 0 w (omega arith));
           };
       cost = omega (arith, bytes_le h l e, num-size-le k);
       low = omega (arith, heights-low h l 0 (omega arith) e);

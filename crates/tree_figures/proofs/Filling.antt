@@ -2,7 +2,7 @@
 use Prim.Native.Nat.{ℕ, ◌+◌, ◌*◌, ◌-◌, ◌≤◌, ◌<◌}
 use mathlib.Core.Bool.{Bool, true, false}
 use mathlib.Core.List.{List, map, ◌++◌}
-use mathlib.Core.Option.{Option, none, some}
+use Rattle.std.specs.Prelude.{Option, None, Some}
 use mathlib.Core.Path.{◌≡◌, refl, sym, ap, subst, ◌∙◌}
 use native.Mathlib.Omega.{arith}
 use borrow.Author.Tests.{eqb-true, eqb-false, ltb-true, ltb-false}
@@ -73,7 +73,7 @@ module _ {bytes work : List ℕ} {i : ℕ} (stands : Stands bytes work i) {parts
   small-lock l h =
       let is = of-fragment bytes (fragment-record bytes stands.fits).0 (shapes-in 36 37 refl (kind_of bytes) l h) in
       let its = is-lock bytes (sym is ∙ stands.fits) in
-      rw its (omega (arith, (lock-bounds bytes (sym is ∙ stands.fits ∙ ap some its)).1))
+      rw its (omega (arith, (lock-bounds bytes (sym is ∙ stands.fits ∙ ap Some its)).1))
 
   module _ {out : List ExtData} (l : Loaded work parts.children n out) where
     pub ready : Ready i kind parts.number parts.k parts.count out
@@ -134,12 +134,12 @@ figures-begin c tree work room =
       so_far = λ j h. absurd (omega arith);
     }
 
-told : {tree : List ℕ} {i : ℕ} (row : TreeRecord tree i) → Told tree i (record_at tree i) (kind_of (record_at tree i)) (parts_of (some row.payload))
+told : {tree : List ℕ} {i : ℕ} (row : TreeRecord tree i) → Told tree i (record_at tree i) (kind_of (record_at tree i)) (parts_of (Some row.payload))
 told row = record { row = row; bytes-are = refl; kind-is = refl; parts_are = refl }
 
 head-kind : (kind : ℕ) (o : Option Payload) → (head_with kind o).kind ≡ kind
-head-kind kind (some p) = refl
-head-kind kind none = refl
+head-kind kind (Some p) = refl
+head-kind kind None = refl
 
 module _ {c : Context} {tree work : List ℕ} {at i : ℕ} (sofar : FiguresOn c tree work at i) {f : Fragment} (r : TreeRecords tree f) where
   pub figures-left : at < length tree → i < 4096

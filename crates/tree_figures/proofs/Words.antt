@@ -1,97 +1,51 @@
 -- Figures in work memory: words are read back, and each record's sixteen are its own. Assumes nothing.
+use Rattle.figures.specs.declared.SatData.{SatData}
+use Rattle.std.specs.Prelude.{Option, None, Some}
 use Prim.Native.Nat.{ℕ, zero, suc, ◌+◌, ◌*◌, ◌-◌, ◌≤◌, ◌<◌}
 use mathlib.Core.Bool.{Bool, true, false}
-use mathlib.Core.List.{List, [], ◌∷◌, ◌++◌, append_assoc}
+use mathlib.Core.List.{List, [], ◌∷◌, ◌++◌}
 use mathlib.Core.Path.{◌≡◌, refl, sym, ap, ◌∙◌}
 use native.Mathlib.Omega.{arith}
-use native.Mathlib.Numerals.{add-one}
-use lib.ListN.{length, get_or, take, drop, set, length-append, length-drop, length-set}
-use lib.Seq.{length-take-le, take_at, drop_at, take-append-le, drop-append-le, take-take, drop-cons, take-suc, set_at, take-nil}
-use Rattle.figures.specs.declared.Sat.{Sat}
+use lib.ListN.{length, get_or, take, drop, length-append, length-drop}
+use lib.Seq.{length-take-le, take_at, drop_at, take-append-le, drop-append-le, take-take, take-nil}
 use Rattle.figures.specs.declared.ExtData.{ExtData}
 use Rattle.figures.specs.Rules.{num, ext}
 use Rattle.tree_figures.specs.Memory.{sat_words, figure_words, figures_in, figures_at, put_figures}
 
 -- ---- words and back
 
-pub six : (a b : Sat) (w x y z : ℕ)
+pub six : (a b : Option SatData) (w x y z : ℕ)
     → w ∷ x ∷ y ∷ z ∷ get_or (sat_words a) 0 0 ∷ get_or (sat_words a) 1 0 ∷ get_or (sat_words a) 2 0 ∷ get_or (sat_words a) 3 0 ∷ get_or (sat_words a) 4 0
     ∷ get_or (sat_words a) 5 0 ∷ get_or (sat_words b) 0 0 ∷ get_or (sat_words b) 1 0 ∷ get_or (sat_words b) 2 0 ∷ get_or (sat_words b) 3 0 ∷ get_or (sat_words b) 4 0
     ∷ get_or (sat_words b) 5 0 ∷ [] ≡ w ∷ x ∷ y ∷ z ∷ (sat_words a ++ sat_words b)
-six (Sat.Some d) (Sat.Some e) w x y z = refl
-six (Sat.Some d) Sat.None w x y z = refl
-six Sat.None (Sat.Some e) w x y z = refl
-six Sat.None Sat.None w x y z = refl
+six (Some d) (Some e) w x y z = refl
+six (Some d) None w x y z = refl
+six None (Some e) w x y z = refl
+six None None w x y z = refl
 
-back : (cost : ℕ) (free : Bool) (ops : ℕ) (a b : Sat) (height : ℕ)
+back : (cost : ℕ) (free : Bool) (ops : ℕ) (a b : Option SatData) (height : ℕ)
     → figures_in (cost ∷ num free ∷ ops ∷ height ∷ (sat_words a ++ sat_words b)) ≡ ext cost free ops a b height
-back cost true ops (Sat.Some d) (Sat.Some e) height = refl
-back cost true ops (Sat.Some d) Sat.None height = refl
-back cost true ops Sat.None (Sat.Some e) height = refl
-back cost true ops Sat.None Sat.None height = refl
-back cost false ops (Sat.Some d) (Sat.Some e) height = refl
-back cost false ops (Sat.Some d) Sat.None height = refl
-back cost false ops Sat.None (Sat.Some e) height = refl
-back cost false ops Sat.None Sat.None height = refl
+back cost true ops (Some d) (Some e) height = refl
+back cost true ops (Some d) None height = refl
+back cost true ops None (Some e) height = refl
+back cost true ops None None height = refl
+back cost false ops (Some d) (Some e) height = refl
+back cost false ops (Some d) None height = refl
+back cost false ops None (Some e) height = refl
+back cost false ops None None height = refl
 
 pub words_back : (x : ExtData) → figures_in (figure_words x) ≡ x
 words_back x = back x.pk_cost x.has_free_verify x.static_ops x.sat_data x.dissat_data x.tree_height
 
-sat-long : (a : Sat) → length (sat_words a) ≡ 6
-sat-long (Sat.Some d) = refl
-sat-long Sat.None = refl
+sat-long : (a : Option SatData) → length (sat_words a) ≡ 6
+sat-long (Some d) = refl
+sat-long None = refl
 
 pub words_long : (x : ExtData) → length (figure_words x) ≡ 16
 words_long x =
     let joined : length (sat_words x.sat_data ++ sat_words x.dissat_data) ≡ length (sat_words x.sat_data) + length (sat_words x.dissat_data) =
     length-append (sat_words x.sat_data) (sat_words x.dissat_data) in
     omega (arith, joined, sat-long x.sat_data, sat-long x.dissat_data)
-
--- ---- laying sixteen words
-
-pub record StoreOn (out₀ words out : List ℕ) (j : ℕ) : Type 0 where
-  pub upto : j ≤ 16
-  pub long : length out ≡ 16
-  pub so_far : out ≡ take j words ++ drop j out₀
-
-pub store-begin : (out words : List ℕ) → length out ≡ 16 → StoreOn out words out 0
-store-begin out words l = record { upto = omega arith; long = l; so_far = refl }
-
-module _ {out₀ words out : List ℕ} {j : ℕ} (on : StoreOn out₀ words out j) (long₀ : length out₀ ≡ 16) (longw : length words ≡ 16) where
-  pub store-more : j < 16 → StoreOn out₀ words (set out j (get_or words j 0)) (j + 1)
-  store-more l =
-      let front : length (take j words) ≡ j = length-take-le j words (omega arith) in
-      let rest : drop j out₀ ≡ get_or out₀ j 0 ∷ drop (suc j) out₀ = drop-cons out₀ j 0 (omega arith) in
-      let grown : take (j + 1) words ≡ take j words ++ (get_or words j 0 ∷ []) = ap (λ (m : ℕ). take m words) (add-one j) ∙ take-suc words j 0 (omega arith) in
-      let left : drop (j + 1) out₀ ≡ drop (suc j) out₀ = ap (λ (m : ℕ). drop m out₀) (add-one j) in
-      record {
-        upto = omega arith;
-        long = length-set out j (get_or words j 0) ∙ on.long;
-        so_far =
-            ap (λ (xs : List ℕ). set xs j (get_or words j 0)) (on.so_far ∙ ap (λ (xs : List ℕ). take j words ++ xs) rest)
-            ∙ set_at (take j words) (get_or out₀ j 0) (drop (suc j) out₀) (get_or words j 0) j front
-            ∙ sym (append_assoc (take j words) (get_or words j 0 ∷ []) (drop (suc j) out₀))
-            ∙ sym (ap (λ (xs : List ℕ). xs ++ drop (j + 1) out₀) grown ∙ ap (λ (xs : List ℕ). (take j words ++ (get_or words j 0 ∷ [])) ++ xs) left);
-      }
-
-  pub store-done : 16 ≤ j → out ≡ words
-  store-done l =
-      let last : j ≡ 16 = omega (arith, on.upto) in
-      let front : take j words ≡ words = ap (λ (m : ℕ). take m words) (last ∙ sym longw) ∙ all words in
-      let rest : drop j out₀ ≡ [] = ap (λ (m : ℕ). drop m out₀) (last ∙ sym long₀) ∙ nothing out₀ in
-      on.so_far ∙ ap (λ (xs : List ℕ). xs ++ drop j out₀) front ∙ ap (λ (xs : List ℕ). words ++ xs) rest ∙ nil words
-    where
-      all : (xs : List ℕ) → take (length xs) xs ≡ xs
-      all [] = refl
-      all (x ∷ xs) = ap (λ (ys : List ℕ). x ∷ ys) (all xs)
-
-      nothing : (xs : List ℕ) → drop (length xs) xs ≡ []
-      nothing [] = refl
-      nothing (x ∷ xs) = nothing xs
-
-      nil : (xs : List ℕ) → xs ++ [] ≡ xs
-      nil [] = refl
-      nil (x ∷ xs) = ap (λ (ys : List ℕ). x ∷ ys) (nil xs)
 
 -- ---- a record's own words
 

@@ -4,7 +4,6 @@
 #![tactic(auto)]
 
 ghost use Rattle.std.specs.Prelude.{◌≡◌, ℕ, ◌+◌, ◌*◌, ◌≤◌, ◌<◌, length, get_or};
-ghost use Rattle.figures.specs.Rules.{num};
 ghost use Rattle.figures.specs.Bounds.{Candidate};
 ghost use Rattle.figures.specs.Validity.{check_local_validity};
 ghost use Rattle.records.specs.RecordForm.{kind_of};
@@ -15,44 +14,35 @@ ghost use Rattle.tree_figures.specs.LocallyValid.{all_valid};
 ghost use Rattle.tree_figures.specs.Memory.{sat_words, figure_words, sat_in, figures_in, figures_at, put_figures, Loaded, figures_here, Stands};
 
 use contexts::Context;
-use figures::{ExtData, Sat, SatData};
+use figures::{ExtData, SatData};
 
 // What stands for a child that is not there.
 fn blank() -> ExtData
     ensures { result ≡ blank }
 {
-    let none = SatData {
+    let zeros = Some(SatData {
         max_witness_stack_size: 0,
         max_witness_stack_count: 0,
         max_script_sig_size: 0,
         max_exec_stack_count: 0,
         max_exec_op_count: 0,
-    };
-    let sat_data = Sat::Some(none);
-    let dissat_data = Sat::Some(none);
+    });
     ExtData {
         pk_cost: 0,
         has_free_verify: false,
         static_ops: 0,
-        sat_data,
-        dissat_data,
+        sat_data: zeros,
+        dissat_data: zeros,
         tree_height: 0,
     }
 }
 
-// 1 for true, 0 for false.
-fn bit(b: bool) -> u64
-    ensures { result ≡ num b }
-{
-    if b { 1 } else { 0 }
-}
-
 // A worst case as words.
-fn sat_words(x: Sat) -> [u64; 6]
+fn sat_words(x: Option<SatData>) -> [u64; 6]
     ensures { result ≡ sat_words x }
 {
     match x {
-        Sat::Some(d) => [
+        Some(d) => [
             1,
             d.max_witness_stack_size,
             d.max_witness_stack_count,
@@ -60,7 +50,7 @@ fn sat_words(x: Sat) -> [u64; 6]
             d.max_exec_stack_count,
             d.max_exec_op_count,
         ],
-        Sat::None => [0, 0, 0, 0, 0, 0],
+        None => [0, 0, 0, 0, 0, 0],
     }
 }
 
@@ -68,14 +58,11 @@ fn sat_words(x: Sat) -> [u64; 6]
 fn words_of(x: ExtData) -> [u64; 16]
     ensures { result ≡ figure_words x }
 {
-    let sat_data = x.sat_data;
-    let dissat_data = x.dissat_data;
-    let s = sat_words(sat_data);
-    let d = sat_words(dissat_data);
-    let free = bit(x.has_free_verify);
+    let s = sat_words(x.sat_data);
+    let d = sat_words(x.dissat_data);
     [
         x.pk_cost,
-        free,
+        u64::from(x.has_free_verify),
         x.static_ops,
         x.tree_height,
         s[0],
@@ -94,12 +81,12 @@ fn words_of(x: ExtData) -> [u64; 16]
 }
 
 // The worst case that stands at a place of some words.
-fn sat_in(words: &[u64], at: usize) -> Sat
+fn sat_in(words: &[u64], at: usize) -> Option<SatData>
     requires { (at ≤ 10) × (length words.now ≡ 16) }
     ensures { result ≡ sat_in words.now at }
 {
     if words[at] == 1 {
-        return Sat::Some(SatData {
+        return Some(SatData {
             max_witness_stack_size: words[at + 1],
             max_witness_stack_count: words[at + 2],
             max_script_sig_size: words[at + 3],
@@ -107,7 +94,7 @@ fn sat_in(words: &[u64], at: usize) -> Sat
             max_exec_op_count: words[at + 5],
         });
     }
-    Sat::None
+    None
 }
 
 // The figures that some words hold.
@@ -115,28 +102,13 @@ fn figures_in(words: &[u64]) -> ExtData
     requires { length words.now ≡ 16 }
     ensures { result ≡ figures_in words.now }
 {
-    let sat_data = sat_in(words, 4);
-    let dissat_data = sat_in(words, 10);
-    let has_free_verify = words[1] == 1;
     ExtData {
         pk_cost: words[0],
-        has_free_verify,
+        has_free_verify: words[1] == 1,
         static_ops: words[2],
-        sat_data,
-        dissat_data,
+        sat_data: sat_in(words, 4),
+        dissat_data: sat_in(words, 10),
         tree_height: words[3],
-    }
-}
-
-// Lays sixteen words.
-fn store(out: &mut [u64], words: [u64; 16])
-    requires { length out.old ≡ 16 }
-    ensures { out.new ≡ words }
-{
-    let mut j = 0;
-    while j < 16 {
-        out[j] = words[j];
-        j += 1;
     }
 }
 
@@ -156,11 +128,9 @@ fn load(work: &[u64], numbers: [u16; 16], n: usize) -> [ExtData; 16]
 {
     let none = blank();
     let mut out = [none; 16];
-    let mut j = 0;
-    while j < n {
+    for j in 0..n {
         let number = numbers[j] as usize;
         out[j] = figures_at(work, number);
-        j += 1;
     }
     out
 }
@@ -190,7 +160,7 @@ fn valid_here(context: Context, bytes: &[u8], work: &mut [u64], i: usize) -> boo
     let ext = figures_here(context, bytes, work, i);
     let words = words_of(ext);
     let from = 16 * i;
-    store(&mut work[from..from + 16], words);
+    work[from..from + 16].copy_from_slice(&words);
     figures::check_local_validity(context, records::kind_of(bytes), ext)
 }
 
@@ -200,6 +170,7 @@ pub fn all_valid(context: Context, tree: &[u8], work: &mut [u64]) -> bool
     ensures value { (f : Fragment) → TreeRecords tree.now f → result ≡ all_valid context f }
     ensures work_len_unchanged { length work.new ≡ length work.old }
 {
+    // Records are of unequal length.
     let mut at = 0;
     let mut i = 0;
     while at < tree.len() {

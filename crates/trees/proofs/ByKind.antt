@@ -1,7 +1,8 @@
 -- The rules by kind, a range of kinds at a time. Assumes nothing.
+use Rattle.correctness.specs.declared.TypeError.{TypeError}
 use Prim.Native.Nat.{ℕ, zero, suc, ◌+◌, ◌-◌, ◌≤◌, ◌<◌}
 use mathlib.Core.List.{List, [], ◌∷◌}
-use mathlib.Core.Option.{none}
+use Rattle.std.specs.Prelude.{None, Result}
 use mathlib.Core.Path.{◌≡◌, refl, sym, ap, subst, ◌∙◌}
 use native.Mathlib.Omega.{arith}
 use borrow.Author.Tests.{le-leb}
@@ -9,7 +10,6 @@ use lib.ListN.{length, get_or, take}
 use Rattle.records.specs.Shapes.{arity}
 use Rattle.records.proofs.Arities.{arity-one, arity-two, arity-below}
 use Rattle.types.specs.declared.«Type».{«Type»}
-use Rattle.types.specs.declared.TypeResult.{TypeResult}
 use Rattle.types.specs.TypeRules as rule
 use Rattle.types.specs.TypeOrder.{unpack}
 use Rattle.contexts.specs.declared.Context.{Context}
@@ -65,30 +65,30 @@ module _ (kind count k : ℕ) (c : Context) (types : List «Type») where
       → rule_of kind c k (get_or types 0 d ∷ get_or types 1 d ∷ []) ≡ a → rule_of kind c k (take (arity kind count) types) ≡ a
   rule-two d len l h e = of-arity 2 (get_or types 0 d ∷ get_or types 1 d ∷ []) (arity-two kind count l h) (two-of types d len) e
 
-  pub rule-three : (d : «Type») {r : TypeResult} → length types ≡ 16 → kind ≡ 55
+  pub rule-three : (d : «Type») {r : Result «Type» TypeError} → length types ≡ 16 → kind ≡ 55
       → r ≡ rule.and_or (get_or types 0 d) (get_or types 1 d) (get_or types 2 d) → rule_of kind c k (take (arity kind count) types) ≡ answered r
   unfolding find
   rule-three d len e h = rw (e, three-of types d len) (ap answered (sym h))
 
-  pub rule-all : {r : TypeResult} → kind ≡ 56 → count ≤ 16 → r ≡ rule.threshold_of k count types
+  pub rule-all : {r : Result «Type» TypeError} → kind ≡ 56 → count ≤ 16 → r ≡ rule.threshold_of k count types
       → rule_of kind c k (take (arity kind count) types) ≡ answered r
   unfolding find
   rule-all e l h =
       let few : rule.threshold_of k count types ≡ rule.threshold k (take count types) = rw (le-leb count 16 l) in
       rw e (ap answered (sym (h ∙ few)))
 
-  pub rule-multi : {r : TypeResult} → kind ≡ 57 → r ≡ in_segwitv0 c rule.multi → rule_of kind c k (take (arity kind count) types) ≡ answered r
+  pub rule-multi : {r : Result «Type» TypeError} → kind ≡ 57 → r ≡ in_segwitv0 c rule.multi → rule_of kind c k (take (arity kind count) types) ≡ answered r
   unfolding find
   rule-multi e h = rw e (ap answered (sym h))
 
-  pub rule-multi-a : {r : TypeResult} → kind ≡ 58 → r ≡ in_tap c rule.multi_a
+  pub rule-multi-a : {r : Result «Type» TypeError} → kind ≡ 58 → r ≡ in_tap c rule.multi_a
       → rule_of kind c k (take (arity kind count) types) ≡ answered r
   unfolding find
   rule-multi-a e h = rw e (ap answered (sym h))
 
 -- ---- words
 
-pub slot-empty : (h p : ℕ) → p ≡ 0 → none ≡ slot_from h p
+pub slot-empty : (h p : ℕ) → p ≡ 0 → None ≡ slot_from h p
 slot-empty h p e = rw e
 
 pub slot-full : (h p : ℕ) → 0 < p → slot_from h p ≡ unpacked h (unpack (p - 1))

@@ -2,7 +2,7 @@
 use Prim.Native.Nat.{ℕ, suc, max, ◌<◌}
 use mathlib.Core.Bool.{Bool, true, false, cond}
 use mathlib.Core.List.{List, [], ◌∷◌}
-use mathlib.Core.Option.{Option, none, some}
+use Rattle.std.specs.Prelude.{Option, None, Some}
 use mathlib.Core.Path.{◌≡◌, refl, ap}
 use native.Mathlib.Omega.{arith}
 use lib.Dec.{eqb}
@@ -95,7 +95,7 @@ unfolding find
 found-rises kind empty = tt
 found-rises kind (both {x = line} {xs = lines} h hs) = by-test (eqb kind line.kind) (found-rises kind hs)
   where
-    by-test : (b : Bool) → IfSome Rises (find kind lines) → IfSome Rises (cond b (some line.this) (find kind lines))
+    by-test : (b : Bool) → IfSome Rises (find kind lines) → IfSome Rises (cond b (Some line.this) (find kind lines))
     by-test true r = h
     by-test false r = r
 
@@ -103,5 +103,5 @@ pub rises : (kind : ℕ) (p : Payload) (xs : List Fragment) → IfSome (λ f. he
 rises kind p xs = by-line (find kind makers) (found-rises kind all-rise)
   where
     by-line : (m : Option Maker) → IfSome Rises m → IfSome (λ f. height_of f ≡ suc (tallest_tree xs)) (made_by m p xs)
-    by-line (some m) h = h p xs
-    by-line none h = tt
+    by-line (Some m) h = h p xs
+    by-line None h = tt

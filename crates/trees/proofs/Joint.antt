@@ -3,7 +3,7 @@
 use Prim.Native.Nat.{ℕ, zero, suc}
 use mathlib.Core.List.{List, [], ◌∷◌, ◌++◌}
 use mathlib.Core.Logic.{⊎_elim}
-use mathlib.Core.Option.{Option, none, some}
+use Rattle.std.specs.Prelude.{Option, None, Some}
 use lib.ListN.{take, drop}
 use Rattle.records.specs.Payloads.{Payload, children_of}
 use Rattle.records.specs.RecordForm.{record_length, kind_of, fragment_payload}
@@ -24,24 +24,24 @@ pub data Joint {A B : Type 0} (N : ℕ → ℕ → Type 0) (R : A → B → Type
   both : {x : A} {y : B} → R x y → Joint N R S (done x) (done y)
 
 or-done : {A : Type 0} (P : A → Type 0) (n : ℕ) (o : Option A) → IfSome P o → IfDone P (or_refuse n o)
-or-done P n none p = refuses
-or-done P n (some x) p = holds p
+or-done P n None p = refuses
+or-done P n (Some x) p = holds p
 
 -- one reading: what holds of some free slot holds of the root
 module _ {A : Type 0} (S : A → Type 0) (make : ℕ → Payload → List A → Answer A)
     (kept : (kind : ℕ) (p : Payload) (xs : List A) → Any S xs → IfDone S (make kind p xs)) where
-  made-any : (l : Slots A) (a : Answer A) → IfDone S a → IfDone (Any (Free S)) (a >>= λ x. done (l ++ (some x ∷ [])))
+  made-any : (l : Slots A) (a : Answer A) → IfDone S a → IfDone (Any (Free S)) (a >>= λ x. done (l ++ (Some x ∷ [])))
   made-any l (refused n) h = refuses
   made-any l (done x) (holds p) = holds (any_last (Free S) l p)
 
-  left-any : (l : Slots A) (a : Answer A) → Any (Free S) l → IfDone (Any (Free S)) (a >>= λ x. done (l ++ (some x ∷ [])))
+  left-any : (l : Slots A) (a : Answer A) → Any (Free S) l → IfDone (Any (Free S)) (a >>= λ x. done (l ++ (Some x ∷ [])))
   left-any l (refused n) h = refuses
-  left-any l (done x) h = holds (any-more (Free S) (some x) h)
+  left-any l (done x) h = holds (any-more (Free S) (Some x) h)
 
   taken-any : (kind : ℕ) (p : Payload) (o : Option (Taken A)) → IfSome (AnyTaken S) o
       → IfDone (Any (Free S)) (or_refuse bad_tree o >>= λ t. add_made make kind p t)
-  taken-any kind p none h = refuses
-  taken-any kind p (some t) h =
+  taken-any kind p None h = refuses
+  taken-any kind p (Some t) h =
       ⊎_elim (λ a. made-any t.left (make kind p t.those) (kept kind p t.those a))
       (λ a. left-any t.left (make kind p t.those) a)
       h
@@ -51,8 +51,8 @@ module _ {A : Type 0} (S : A → Type 0) (make : ℕ → Payload → List A → 
   record-any slots bytes h = by-payload (fragment_payload bytes)
     where
       by-payload : (o : Option Payload) → IfDone (Any (Free S)) (or_refuse bad_tree o >>= λ p. add_payload make slots (kind_of bytes) p)
-      by-payload none = refuses
-      by-payload (some p) = taken-any (kind_of bytes) p (take_all (children_of p) slots) (take-any S (children_of p) slots h)
+      by-payload None = refuses
+      by-payload (Some p) = taken-any (kind_of bytes) p (take_all (children_of p) slots) (take-any S (children_of p) slots h)
 
   pub read-any : (more : ℕ) (slots : Slots A) (bytes : List ℕ) → Any (Free S) slots → IfDone S (read_from make more slots bytes)
   unfolding read_from
@@ -72,8 +72,8 @@ module _ {A : Type 0} (S : A → Type 0) (make : ℕ → Payload → List A → 
       by_length : (o : Option ℕ) → Rest
           → IfDone S (or_refuse bad_tree o >>= λ len. add_record make slots (take len (b ∷ bs))
           >>= λ slots'. read_from make more slots' (drop len (b ∷ bs)))
-      by_length none rest = refuses
-      by_length (some len) rest =
+      by_length None rest = refuses
+      by_length (Some len) rest =
           by_slots len (add_record make slots (take len (b ∷ bs))) (record-any slots (take len (b ∷ bs)) h) rest
 
 -- two readings
@@ -88,27 +88,27 @@ module _ {A B : Type 0} (N : ℕ → ℕ → Type 0) (R : A → B → Type 0) (S
 
   some-free : (l : Slots A) → Any (Free S) l → (m n : ℕ) → N m n
   some-free [] x' = elim x' [ ]
-  some-free (none ∷ l) (here p) = absurd p
-  some-free (some x ∷ l) (here p) = still x p
-  some-free (none ∷ l) (there h) = some-free l h
-  some-free (some x ∷ l) (there h) = some-free l h
+  some-free (None ∷ l) (here p) = absurd p
+  some-free (Some x ∷ l) (here p) = still x p
+  some-free (None ∷ l) (there h) = some-free l h
+  some-free (Some x ∷ l) (there h) = some-free l h
 
   alone : (a : Answer A) (n : ℕ) → ((m : ℕ) → N m n) → IfDone S a → Joint N R S a (refused n)
   alone (refused m) n f h = neither (f m)
   alone (done x) n f (holds h) = first h
 
   joint-own : (l : Slots A) (l' : Slots B) (a : Answer A) (b : Answer B) → Pairs (Alike R) l l' → Joint N R S a b
-      → JointSlots (a >>= λ x. done (l ++ (some x ∷ []))) (b >>= λ y. done (l' ++ (some y ∷ [])))
+      → JointSlots (a >>= λ x. done (l ++ (Some x ∷ []))) (b >>= λ y. done (l' ++ (Some y ∷ [])))
   joint-own l l' a b ps (neither h) = neither h
   joint-own l l' a b ps (first h) = first (any_last (Free S) l h)
   joint-own l l' a b ps (both h) = both (pairs-more (Alike R) ps h)
 
   joint-taken : (kind : ℕ) (p : Payload) (o : Option (Taken A)) (o' : Option (Taken B)) → Alike (PairsTaken R) o o'
       → JointSlots (or_refuse bad_tree o >>= λ t. add_made make kind p t) (or_refuse bad_tree o' >>= λ t. add_made make' kind p t)
-  joint-taken kind p none none h = neither (same bad_tree)
-  joint-taken kind p none (some t) h = absurd h
-  joint-taken kind p (some s) none h = absurd h
-  joint-taken kind p (some s) (some t) h =
+  joint-taken kind p None None h = neither (same bad_tree)
+  joint-taken kind p None (Some t) h = absurd h
+  joint-taken kind p (Some s) None h = absurd h
+  joint-taken kind p (Some s) (Some t) h =
       joint-own s.left t.left (make kind p s.those) (make' kind p t.those) h.1 (makes kind p s.those t.those h.0)
 
   joint-record : (s : Slots A) (t : Slots B) (bytes : List ℕ) → Pairs (Alike R) s t
@@ -119,15 +119,15 @@ module _ {A B : Type 0} (N : ℕ → ℕ → Type 0) (R : A → B → Type 0) (S
       by-payload : (o : Option Payload)
           → JointSlots (or_refuse bad_tree o >>= λ p. add_payload make s (kind_of bytes) p)
           (or_refuse bad_tree o >>= λ p. add_payload make' t (kind_of bytes) p)
-      by-payload none = neither (same bad_tree)
-      by-payload (some p) =
+      by-payload None = neither (same bad_tree)
+      by-payload (Some p) =
           joint-taken (kind_of bytes) p (take_all (children_of p) s) (take_all (children_of p) t) (take-pairs R (children_of p) s t h)
 
   joint-root : (o : Option A) (o' : Option B) → Alike R o o' → Joint N R S (or_refuse bad_tree o) (or_refuse bad_tree o')
-  joint-root none none h = neither (same bad_tree)
-  joint-root none (some y) h = absurd h
-  joint-root (some x) none h = absurd h
-  joint-root (some x) (some y) h = both h
+  joint-root None None h = neither (same bad_tree)
+  joint-root None (Some y) h = absurd h
+  joint-root (Some x) None h = absurd h
+  joint-root (Some x) (Some y) h = both h
 
   joint-from : (more : ℕ) (s : Slots A) (t : Slots B) (bytes : List ℕ) → Pairs (Alike R) s t
       → Joint N R S (read_from make more s bytes) (read_from make' more t bytes)
@@ -154,8 +154,8 @@ module _ {A B : Type 0} (N : ℕ → ℕ → Type 0) (R : A → B → Type 0) (S
           >>= λ s'. read_from make more s' (drop len (b ∷ bs)))
           (or_refuse bad_tree o >>= λ len. add_record make' t (take len (b ∷ bs))
           >>= λ t'. read_from make' more t' (drop len (b ∷ bs)))
-      by_length none rest = neither (same bad_tree)
-      by_length (some len) rest =
+      by_length None rest = neither (same bad_tree)
+      by_length (Some len) rest =
           by_slots len (add_record make s (take len (b ∷ bs))) (add_record make' t (take len (b ∷ bs)))
           (joint-record s t (take len (b ∷ bs)) h) rest
 

@@ -1,15 +1,14 @@
 -- The rules by kind give the type of the fragment that a record makes of its children, and an ill-typed child makes it ill-typed.
 -- Assumes nothing.
+use Rattle.correctness.specs.declared.TypeError.{TypeError}
 use Prim.Native.Nat.{ℕ}
 use mathlib.Core.Bool.{Bool, true, false, cond}
 use mathlib.Core.List.{List, [], ◌∷◌, map}
-use mathlib.Core.Option.{Option, none, some}
+use Rattle.std.specs.Prelude.{Option, None, Some, Result, Ok, Err}
 use mathlib.Core.Path.{◌≡◌, refl, sym, ap, ◌∙◌}
 use lib.Dec.{eqb}
 use Rattle.records.specs.Payloads.{Payload, number_of, k_of, keys_of}
 use Rattle.types.specs.declared.«Type».{«Type»}
-use Rattle.types.specs.declared.TypeResult.{TypeResult}
-use Rattle.types.specs.declared.TypeResult.TheVariants.{Ok, IllTyped}
 use Rattle.types.specs.TypeRules as rule
 use Rattle.contexts.specs.declared.Context.{Context}
 use Rattle.contexts.specs.Leaves.{After, Older, Sha256, Hash256, Ripemd160, Hash160}
@@ -53,12 +52,12 @@ module _ (c : Context) where
   Good x = type_of c x.tree ≡ Ok x.type
 
   abbrev pub Ill : Fragment → Type 0
-  Ill f = type_of c f ≡ IllTyped
+  Ill f = type_of c f ≡ Err TypeError.IllTyped
 
   -- the type of a record's own fragment, if there is one
   abbrev pub type_made : Option Fragment → Answer «Type»
-  type_made none = refused bad_tree
-  type_made (some f) = answered (type_of c f)
+  type_made None = refused bad_tree
+  type_made (Some f) = answered (type_of c f)
 
   -- what a maker makes of well-typed children has the type that the rule gives; what it makes of an ill-typed child is ill-typed
   pub record Fits (maker : Maker) (rule : Rule) : Type 0 where
@@ -67,10 +66,10 @@ module _ (c : Context) where
     pub ill : (p : Payload) (xs : List Fragment) → Any Ill xs → IfSome Ill (maker p xs)
 
   abbrev pub FitsIfFound : Option Maker → Option Rule → Type 0
-  FitsIfFound (some m) (some r) = Fits m r
-  FitsIfFound (some m) none = ⊥
-  FitsIfFound none (some r) = ⊥
-  FitsIfFound none none = Unit
+  FitsIfFound (Some m) (Some r) = Fits m r
+  FitsIfFound (Some m) None = ⊥
+  FitsIfFound None (Some r) = ⊥
+  FitsIfFound None None = Unit
 
   -- two tables with the same kinds, line by line
   data Aligned : List (Line Maker) → List (Line Rule) → Type 0 where
@@ -84,23 +83,23 @@ module _ (c : Context) where
   found kind (line {n} {m} {r} {ms} {rs} f a) = by-test (eqb kind n) (found kind a)
     where
       by-test : (t : Bool) → FitsIfFound (find kind ms) (find kind rs)
-          → FitsIfFound (cond t (some m) (find kind ms)) (cond t (some r) (find kind rs))
+          → FitsIfFound (cond t (Some m) (find kind ms)) (cond t (Some r) (find kind rs))
       by-test true h = f
       by-test false h = h
 
   -- ---- each form of a record
 
   -- what is made has the type r, so the rule that answers r is the same
-  answer : (f : Fragment) (r : TypeResult) → type_of c f ≡ r → answered r ≡ type_made (some f)
+  answer : (f : Fragment) (r : Result «Type» TypeError) → type_of c f ≡ r → answered r ≡ type_made (Some f)
   answer f r e = ap answered (sym e)
 
   -- an ill-typed second child
-  second-ill : (r : TypeResult) → (r >>= λ s. IllTyped) ≡ IllTyped
+  second-ill : (r : Result «Type» TypeError) → (r >>= λ s. (Err TypeError.IllTyped)) ≡ Err TypeError.IllTyped
   second-ill (Ok t) = refl
-  second-ill IllTyped = refl
+  second-ill (Err TypeError.IllTyped) = refl
 
-  leaf : (maker : Maker) (f : Payload → Fragment) (r : Context → TypeResult) → ((p : Payload) → maker p [] ≡ some (f p))
-      → ((p : Payload) (x : Fragment) (xs : List Fragment) → maker p (x ∷ xs) ≡ none) → ((p : Payload) → type_of c (f p) ≡ r c)
+  leaf : (maker : Maker) (f : Payload → Fragment) (r : Context → Result «Type» TypeError) → ((p : Payload) → maker p [] ≡ Some (f p))
+      → ((p : Payload) (x : Fragment) (xs : List Fragment) → maker p (x ∷ xs) ≡ None) → ((p : Payload) → type_of c (f p) ≡ r c)
       → Fits maker (of_none r)
   leaf maker f r is_some is_none h = record { same = same; ill = ill }
     where
@@ -119,12 +118,12 @@ module _ (c : Context) where
   number_fits : (f : ℕ → Fragment) (t : «Type») → ((n : ℕ) → type_of c (f n) ≡ Ok t) → Fits (with_number f) (always t)
   number_fits f t h = leaf (with_number f) (λ p. f (number_of p)) (λ c. Ok t) (λ p. refl) (λ p x xs. refl) (λ p. h (number_of p))
 
-  keys-fits : (f : ℕ → List ℕ → Fragment) (r : Context → TypeResult) → ((k : ℕ) (ks : List ℕ) → type_of c (f k ks) ≡ r c)
+  keys-fits : (f : ℕ → List ℕ → Fragment) (r : Context → Result «Type» TypeError) → ((k : ℕ) (ks : List ℕ) → type_of c (f k ks) ≡ r c)
       → Fits (of_keys f) (of_none r)
   keys-fits f r h =
       leaf (of_keys f) (λ p. f (k_of p) (keys_of p)) r (λ p. refl) (λ p x xs. refl) (λ p. h (k_of p) (keys_of p))
 
-  one-fits : (f : Fragment → Fragment) (r : «Type» → TypeResult) → ((x : Fragment) → type_of c (f x) ≡ (type_of c x >>= r))
+  one-fits : (f : Fragment → Fragment) (r : «Type» → Result «Type» TypeError) → ((x : Fragment) → type_of c (f x) ≡ (type_of c x >>= r))
       → Fits (one f) (of_one r)
   one-fits f r h = record { same = same; ill = ill }
     where
@@ -140,11 +139,11 @@ module _ (c : Context) where
       ill p (x ∷ []) (here e) = h x ∙ rw e
       ill p (x ∷ y ∷ xs) a = tt
 
-  one-in-fits : (f : Fragment → Fragment) (r : Context → «Type» → TypeResult) → ((x : Fragment) → type_of c (f x) ≡ (type_of c x >>= r c))
+  one-in-fits : (f : Fragment → Fragment) (r : Context → «Type» → Result «Type» TypeError) → ((x : Fragment) → type_of c (f x) ≡ (type_of c x >>= r c))
       → Fits (one f) (of_one_in r)
   one-in-fits f r h = let w = one-fits f (r c) h in record { same = w.same; ill = w.ill }
 
-  two_fits : (f : Fragment → Fragment → Fragment) (r : «Type» → «Type» → TypeResult)
+  two_fits : (f : Fragment → Fragment → Fragment) (r : «Type» → «Type» → Result «Type» TypeError)
       → ((x y : Fragment) → type_of c (f x y) ≡ (type_of c x >>= λ s. type_of c y >>= λ t. r s t)) → Fits (two f) (of_two r)
   two_fits f r h = record { same = same; ill = ill }
     where
@@ -163,7 +162,7 @@ module _ (c : Context) where
       ill p (x ∷ y ∷ []) (there (here e)) = h x y ∙ rw e (second-ill (type_of c x))
       ill p (x ∷ y ∷ z ∷ xs) a = tt
 
-  three-fits : (f : Fragment → Fragment → Fragment → Fragment) (r : «Type» → «Type» → «Type» → TypeResult)
+  three-fits : (f : Fragment → Fragment → Fragment → Fragment) (r : «Type» → «Type» → «Type» → Result «Type» TypeError)
       → ((x y z : Fragment) → type_of c (f x y z) ≡ (type_of c x >>= λ s. type_of c y >>= λ t. type_of c z >>= λ u. r s t u))
       → Fits (three f) (of_three r)
   three-fits f r h = record { same = same; ill = ill }
@@ -186,24 +185,24 @@ module _ (c : Context) where
       ill p (x ∷ y ∷ z ∷ []) (here e) = h x y z ∙ rw e
       ill p (x ∷ y ∷ z ∷ []) (there (here e)) = h x y z ∙ rw e (second-ill (type_of c x))
       ill p (x ∷ y ∷ z ∷ []) (there (there (here e))) =
-          h x y z ∙ rw e (ap (λ (r : TypeResult). type_of c x >>= λ s. r) (second-ill (type_of c y)) ∙ second-ill (type_of c x))
+          h x y z ∙ rw e (ap (λ (r : Result «Type» TypeError). type_of c x >>= λ s. r) (second-ill (type_of c y)) ∙ second-ill (type_of c x))
       ill p (x ∷ y ∷ z ∷ w ∷ xs) a = tt
 
   -- the types of all children of a Thresh
-  types-good : (xs : List Typed) → All Good xs → types_of c (fragments (map (λ x. x.tree) xs)) ≡ some (map (λ x. x.type) xs)
+  types-good : (xs : List Typed) → All Good xs → types_of c (fragments (map (λ x. x.tree) xs)) ≡ Some (map (λ x. x.type) xs)
   unfolding fragments types_of
   types-good [] g = refl
   types-good (x ∷ xs) (both e g) = rw (e, types-good xs g)
 
-  types-ill : (xs : List Fragment) → Any Ill xs → types_of c (fragments xs) ≡ none
+  types-ill : (xs : List Fragment) → Any Ill xs → types_of c (fragments xs) ≡ None
   unfolding fragments types_of
   types-ill [] x' = elim x' [ ]
   types-ill (x ∷ xs) (here e) = rw e
   types-ill (x ∷ xs) (there a) = rw (types-ill xs a) (by_first (type_of c x))
     where
-      by_first : (r : TypeResult) → and_all r none ≡ none
+      by_first : (r : Result «Type» TypeError) → and_all r None ≡ None
       by_first (Ok t) = refl
-      by_first IllTyped = refl
+      by_first (Err TypeError.IllTyped) = refl
 
   thresh : (k : ℕ) (xs : Fragments) → type_of c (Thresh k xs) ≡ all_typed (types_of c xs) (λ ts. rule.threshold k ts)
   unfolding type_of

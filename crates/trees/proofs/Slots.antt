@@ -3,7 +3,7 @@
 use Prim.Native.Nat.{ℕ, zero, suc}
 use mathlib.Core.List.{List, [], ◌∷◌, ◌++◌}
 use mathlib.Core.Logic.{◌⊎◌, inl, inr, ⊎_elim}
-use mathlib.Core.Option.{Option, none, some}
+use Rattle.std.specs.Prelude.{Option, None, Some}
 use mathlib.Core.Path.{◌≡◌, refl, ap}
 use native.Mathlib.Omega.{arith}
 use lib.ListN.{length, get_or, set}
@@ -26,18 +26,18 @@ pub data Pairs {A B : Type 0} (R : A → B → Type 0) : List A → List B → T
 -- what holds if there is something; of a slot that is free; of two slots that are both free or both taken
 
 abbrev pub IfSome : {A : Type 0} → (A → Type 0) → Option A → Type 0
-IfSome P none = Unit
-IfSome P (some x) = P x
+IfSome P None = Unit
+IfSome P (Some x) = P x
 
 abbrev pub Free : {A : Type 0} → (A → Type 0) → Option A → Type 0
-Free P none = ⊥
-Free P (some x) = P x
+Free P None = ⊥
+Free P (Some x) = P x
 
 abbrev pub Alike : {A B : Type 0} → (A → B → Type 0) → Option A → Option B → Type 0
-Alike R none none = Unit
-Alike R none (some y) = ⊥
-Alike R (some x) none = ⊥
-Alike R (some x) (some y) = R x y
+Alike R None None = Unit
+Alike R None (Some y) = ⊥
+Alike R (Some x) None = ⊥
+Alike R (Some x) (Some y) = R x y
 
 -- ---- some free slot
 
@@ -55,17 +55,17 @@ module _ {A : Type 0} (P : A → Type 0) where
   AnyTaken t = Any P t.those ⊎ Any (Free P) t.left
 
   first_any : (o : Option A) (r : Option (Taken A)) → Free P o → IfSome AnyTaken (and_first o r)
-  first_any (some x) (some t) p = inl (here p)
-  first_any (some x) none p = tt
-  first_any none r p = tt
+  first_any (Some x) (Some t) p = inl (here p)
+  first_any (Some x) None p = tt
+  first_any None r p = tt
 
   later-any : (o : Option A) (r : Option (Taken A)) → IfSome AnyTaken r → IfSome AnyTaken (and_first o r)
-  later-any (some x) (some t) p = ⊎_elim (λ q. inl (there q)) (λ q. inr q) p
-  later-any (some x) none p = tt
-  later-any none r p = tt
+  later-any (Some x) (Some t) p = ⊎_elim (λ q. inl (there q)) (λ q. inr q) p
+  later-any (Some x) None p = tt
+  later-any None r p = tt
 
   -- a free slot is the one that is taken, or is free afterwards
-  any-set : (slots : Slots A) (j : ℕ) → Any (Free P) slots → Free P (get_or slots j none) ⊎ Any (Free P) (set slots j none)
+  any-set : (slots : Slots A) (j : ℕ) → Any (Free P) slots → Free P (get_or slots j None) ⊎ Any (Free P) (set slots j None)
   any-set [] j p = elim p [ ]
   any-set (o ∷ slots) zero (here p) = inl p
   any-set (o ∷ slots) zero (there p) = inr (there p)
@@ -77,20 +77,20 @@ module _ {A : Type 0} (P : A → Type 0) where
   unfolding take_all
   take-any [] slots p = inr p
   take-any (j ∷ js) slots p =
-      ⊎_elim (λ q. first_any (get_or slots j none) (take_all js (set slots j none)) q)
-      (λ q. later-any (get_or slots j none) (take_all js (set slots j none)) (take-any js (set slots j none) q))
+      ⊎_elim (λ q. first_any (get_or slots j None) (take_all js (set slots j None)) q)
+      (λ q. later-any (get_or slots j None) (take_all js (set slots j None)) (take-any js (set slots j None) q))
       (any-set slots j p)
 
   -- and of the root
   pub root-any : (slots : Slots A) → Any (Free P) slots → IfSome P (root_of slots)
   unfolding root_of
   root-any [] p = tt
-  root-any (none ∷ []) p = tt
-  root-any (some x ∷ []) (here p) = p
-  root-any (some x ∷ []) (there p) = elim p [ ]
-  root-any (none ∷ o ∷ slots) (here p) = elim p [ ]
-  root-any (none ∷ o ∷ slots) (there p) = root-any (o ∷ slots) p
-  root-any (some x ∷ o ∷ slots) p = tt
+  root-any (None ∷ []) p = tt
+  root-any (Some x ∷ []) (here p) = p
+  root-any (Some x ∷ []) (there p) = elim p [ ]
+  root-any (None ∷ o ∷ slots) (here p) = elim p [ ]
+  root-any (None ∷ o ∷ slots) (there p) = root-any (o ∷ slots) p
+  root-any (Some x ∷ o ∷ slots) p = tt
 
 -- ---- two rows of slots
 
@@ -121,22 +121,22 @@ module _ {A B : Type 0} (R : A → B → Type 0) where
 
   first-pairs : (o : Option A) (o' : Option B) (r : Option (Taken A)) (r' : Option (Taken B)) → Alike R o o' → Alike PairsTaken r r'
       → Alike PairsTaken (and_first o r) (and_first o' r')
-  first-pairs (some x) (some y) (some s) (some t) p q = (pair p q.0, q.1)
-  first-pairs (some x) (some y) (some s) none p q = q
-  first-pairs (some x) (some y) none (some t) p q = q
-  first-pairs (some x) (some y) none none p q = tt
-  first-pairs (some x) none r r' p q = absurd p
-  first-pairs none (some y) r r' p q = absurd p
-  first-pairs none none r r' p q = tt
+  first-pairs (Some x) (Some y) (Some s) (Some t) p q = (pair p q.0, q.1)
+  first-pairs (Some x) (Some y) (Some s) None p q = q
+  first-pairs (Some x) (Some y) None (Some t) p q = q
+  first-pairs (Some x) (Some y) None None p q = tt
+  first-pairs (Some x) None r r' p q = absurd p
+  first-pairs None (Some y) r r' p q = absurd p
+  first-pairs None None r r' p q = tt
 
   -- children taken from two rows of slots are alike, and so are the slots left
   pub take-pairs : (js : List ℕ) (s : Slots A) (t : Slots B) → Pairs (Alike R) s t → Alike PairsTaken (take_all js s) (take_all js t)
   unfolding take_all
   take-pairs [] s t ps = (empty, ps)
   take-pairs (j ∷ js) s t ps =
-      first-pairs (get_or s j none) (get_or t j none) (take_all js (set s j none)) (take_all js (set t j none))
+      first-pairs (get_or s j None) (get_or t j None) (take_all js (set s j None)) (take_all js (set t j None))
       (pairs-get_d (Alike R) ps tt j)
-      (take-pairs js (set s j none) (set t j none) (pairs_set (Alike R) ps tt j))
+      (take-pairs js (set s j None) (set t j None) (pairs_set (Alike R) ps tt j))
 
   -- and the roots
   pub root-pairs : (s : Slots A) (t : Slots B) → Pairs (Alike R) s t → Alike R (root_of s) (root_of t)
@@ -152,7 +152,7 @@ module _ {A B : Type 0} (R : A → B → Type 0) where
     where
       by_first : (o : Option A) (o' : Option B) → Alike R o o' → Alike R (root_of (u ∷ s)) (root_of (v ∷ t))
           → Alike R (root_of (o ∷ u ∷ s)) (root_of (o' ∷ v ∷ t))
-      by_first none none p r = r
-      by_first none (some y) p r = absurd p
-      by_first (some x) none p r = absurd p
-      by_first (some x) (some y) p r = tt
+      by_first None None p r = r
+      by_first None (Some y) p r = absurd p
+      by_first (Some x) None p r = absurd p
+      by_first (Some x) (Some y) p r = tt

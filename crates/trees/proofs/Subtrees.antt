@@ -1,8 +1,9 @@
 -- Laws on a record's children in their sixteen places: their types and the tallest of them, child by child; and on the record's own slot. Assumes
 -- nothing.
+use Rattle.refusals.specs.declared.Refusal.TheVariants as Refusal
 use Prim.Native.Nat.{ℕ, zero, suc, max, ◌+◌, ◌-◌, ◌≤◌, ◌<◌}
 use mathlib.Core.List.{List, [], ◌∷◌, ◌++◌, append_assoc, append-nil}
-use mathlib.Core.Option.{some}
+use Rattle.std.specs.Prelude.{Some, Ok, Err}
 use mathlib.Core.Path.{◌≡◌, refl, sym, ap, ◌∙◌}
 use native.Mathlib.Numerals.{add-one}
 use native.Mathlib.Omega.{arith}
@@ -10,7 +11,6 @@ use lib.ListN.{length, get_or, set, take, drop, drop_of_length-le}
 use lib.Seq.{take_all, take-suc-set, drop-cons}
 use Rattle.types.specs.declared.«Type».{«Type»}
 use Rattle.trees.specs.declared.Subtree.{Subtree}
-use Rattle.trees.specs.declared.Step.TheVariants as Step
 use Rattle.trees.specs.Height.{max_height}
 use Rattle.trees.specs.Rules.{types_of, tallest}
 use Rattle.trees.specs.WorkMemory.{slots_in, Placed, placed, too_tall}
@@ -72,10 +72,10 @@ module _ (xs : List Subtree) where
 
 module _ {work work' : List ℕ} {read : ℕ} {t : «Type»} {xs : List Subtree} {n below : ℕ} (is : below ≡ tallest xs) (same : length work' ≡ length work) where
   pub placed-low : below < max_height
-      → slots_in work' (read + 1) ≡ slots_in work read ++ (some (record { ty = t; height = below + 1 }) ∷ []) → Placed work work' read t xs n (Step.Next n)
+      → slots_in work' (read + 1) ≡ slots_in work read ++ (Some (record { ty = t; height = below + 1 }) ∷ []) → Placed work work' read t xs n (Ok n)
   placed-low h more =
       placed (omega (arith, is)) same
-      (more ∙ ap (λ (h : ℕ). slots_in work read ++ (some (record { ty = t; height = h }) ∷ [])) (add-one below ∙ ap suc is))
+      (more ∙ ap (λ (h : ℕ). slots_in work read ++ (Some (record { ty = t; height = h }) ∷ [])) (add-one below ∙ ap suc is))
 
-  pub placed-tall : max_height ≤ below → Placed work work' read t xs n Step.TooTall
+  pub placed-tall : max_height ≤ below → Placed work work' read t xs n (Err Refusal.TreeTooTall)
   placed-tall h = too_tall (omega (arith, is)) same

@@ -1,18 +1,17 @@
 -- The tree check passes exactly the well-typed trees that are not too tall (TreeCheck.antt), and its type and height can be found from the children's
 -- alone (Rules.antt). Both compare two readings of the same bytes. Assumes nothing.
+use Rattle.correctness.specs.declared.TypeError.{TypeError}
 use Prim.Native.Nat.{ℕ, suc, ◌≤◌, ◌<◌}
 use mathlib.Core.Bool.{Bool, true, false, cond}
 use mathlib.Core.List.{List, map}
 use mathlib.Core.Logic.{◌⊎◌, inl, inr, ⊎_elim}
-use mathlib.Core.Option.{Option, none, some}
+use Rattle.std.specs.Prelude.{Option, None, Some, Result, Ok, Err}
 use mathlib.Core.Path.{◌≡◌, refl, sym, ap, subst, ◌∙◌}
 use native.Mathlib.Omega.{arith}
 use borrow.Author.Tests.{eq-eqb, ne_eqb, leb-true, leb-false}
 use lib.Dec.{leb}
 use Rattle.records.specs.Payloads.{Payload, k_of}
 use Rattle.types.specs.declared.«Type».{«Type»}
-use Rattle.types.specs.declared.TypeResult.{TypeResult}
-use Rattle.types.specs.declared.TypeResult.TheVariants.{Ok, IllTyped}
 use Rattle.contexts.specs.declared.Context.{Context}
 use Rattle.contexts.specs.declared.Context.TheVariants.{Segwitv0, Tap}
 use Rattle.trees.specs.Fragment.{Fragment}
@@ -47,20 +46,20 @@ module _ (c : Context) where
   ill-kept kind p xs a = by-line (find kind makers) (find kind rules) (fits c kind)
     where
       by-some : (o : Option Fragment) → IfSome (Ill c) o → IfDone Unfit (or_refuse bad_tree o)
-      by-some none h = refuses
-      by-some (some f) h = holds (inl h)
+      by-some None h = refuses
+      by-some (Some f) h = holds (inl h)
 
       by-line : (m : Option Maker) (r : Option Rule) → FitsIfFound c m r → IfDone Unfit (or_refuse bad_tree (made_by m p xs))
-      by-line (some m) (some r) h = by-some (m p xs) (h.ill p xs a)
-      by-line (some m) none h = absurd h
-      by-line none r h = refuses
+      by-line (Some m) (Some r) h = by-some (m p xs) (h.ill p xs a)
+      by-line (Some m) None h = absurd h
+      by-line None r h = refuses
 
   tall-kept : (kind : ℕ) (p : Payload) (xs : List Fragment) → Any Tall xs → IfDone Unfit (make_fragment kind p xs)
   tall-kept kind p xs a = by-some (fragment_of kind p xs) (rises kind p xs)
     where
       by-some : (o : Option Fragment) → IfSome (λ f. height_of f ≡ suc (tallest_tree xs)) o → IfDone Unfit (or_refuse bad_tree o)
-      by-some none h = refuses
-      by-some (some f) h = holds {x = f} (inr (omega (arith, h, any-tall a)))
+      by-some None h = refuses
+      by-some (Some f) h = holds {x = f} (inr (omega (arith, h, any-tall a)))
 
   either : {xs : List Fragment} → Any Unfit xs → Any (Ill c) xs ⊎ Any Tall xs
   either (here h) = ⊎_elim (λ i. inl (here i)) (λ t. inr (here t)) h
@@ -82,13 +81,13 @@ module _ (c : Context) where
       by_height f t true e l = Joint.both (refl, e, leb-true _ _ l)
       by_height f t false e l = first (inr (leb-false _ _ l))
 
-      by-type : (f : Fragment) (r : TypeResult) → type_of c f ≡ r → Joint (λ m n. Unit) Tree Unfit (done f) (typed f r)
+      by-type : (f : Fragment) (r : Result «Type» TypeError) → type_of c f ≡ r → Joint (λ m n. Unit) Tree Unfit (done f) (typed f r)
       by-type f (Ok t) e = by_height f t (leb (height_of f) max_height) e refl
-      by-type f IllTyped e = first (inl e)
+      by-type f (Err TypeError.IllTyped) e = first (inl e)
 
       by-made : (o : Option Fragment) → Joint (λ m n. Unit) Tree Unfit (or_refuse bad_tree o) (made c o)
-      by-made none = neither tt
-      by-made (some f) = by-type f (type_of c f) refl
+      by-made None = neither tt
+      by-made (Some f) = by-type f (type_of c f) refl
 
   trees : (bytes : List ℕ) → Joint (λ m n. Unit) Tree Unfit (tree_of bytes) (typed_tree_of c bytes)
   unfolding tree_of typed_tree_of
@@ -119,7 +118,7 @@ module _ (c : Context) where
       let same : f ≡ x.tree = cc in
       absurd (⊎_elim (λ i. ill-or (sym t ∙ ap (type_of c) (sym same) ∙ i)) (λ k. tall-or (subst Tall same k) l) h)
     where
-      ill-or : {t : «Type»} → Ok t ≡ IllTyped → ⊥
+      ill-or : {t : «Type»} → Ok t ≡ (Err TypeError.IllTyped) → ⊥
       ill-or e =
           let z : ◌≡◌ {A = ℕ} 0 1 = cc in
           omega arith
@@ -163,8 +162,8 @@ module _ (c : Context) where
 
   made_found : (n : ℕ) (o : Option Fragment) → IfSome (λ f. height_of f ≡ n) o
       → Joint ◌≡◌ Found (λ x. ⊥) (made c o) (type_made c o >>= λ t. subtree_of n t)
-  made_found n none h = neither refl
-  made_found n (some f) h = subst (λ (n : ℕ). Joint ◌≡◌ Found (λ x. ⊥) (made c (some f)) (type_made c (some f) >>= λ t. subtree_of n t)) h
+  made_found n None h = neither refl
+  made_found n (Some f) h = subst (λ (n : ℕ). Joint ◌≡◌ Found (λ x. ⊥) (made c (Some f)) (type_made c (Some f) >>= λ t. subtree_of n t)) h
       (by-type (type_of c f) refl)
     where
       by_height : (t : «Type») (b : Bool) → type_of c f ≡ Ok t
@@ -173,9 +172,9 @@ module _ (c : Context) where
       by_height t true e = Joint.both (record { good = e; typed = refl; high = refl })
       by_height t false e = neither refl
 
-      by-type : (r : TypeResult) → type_of c f ≡ r → Joint ◌≡◌ Found (λ x. ⊥) (typed f r) (answered r >>= λ t. subtree_of (height_of f) t)
+      by-type : (r : Result «Type» TypeError) → type_of c f ≡ r → Joint ◌≡◌ Found (λ x. ⊥) (typed f r) (answered r >>= λ t. subtree_of (height_of f) t)
       by-type (Ok t) e = by_height t (leb (height_of f) max_height) e
-      by-type IllTyped e = neither refl
+      by-type (Err TypeError.IllTyped) e = neither refl
 
   makes-subtree : (kind : ℕ) (p : Payload) (xs : List Typed) (ss : List Subtree) → Pairs Found xs ss
       → Joint ◌≡◌ Found (λ x. ⊥) (make_typed c kind p xs) (make_subtree c kind p ss)
@@ -186,10 +185,10 @@ module _ (c : Context) where
           → IfSome (λ f. height_of f ≡ height_over xs) (made_by m p (map (λ x. x.tree) xs))
           → Joint ◌≡◌ Found (λ x. ⊥) (made c (made_by m p (map (λ x. x.tree) xs)))
           (given_by r c (k_of p) (map (λ x. x.type) xs) >>= λ t. subtree_of (height_over xs) t)
-      by-line (some m) (some r) h rise = rw (h.same p xs (all-good ps)) (made_found (height_over xs) (m p (map (λ x. x.tree) xs)) rise)
-      by-line (some m) none h rise = absurd h
-      by-line none (some r) h rise = absurd h
-      by-line none none h rise = neither refl
+      by-line (Some m) (Some r) h rise = rw (h.same p xs (all-good ps)) (made_found (height_over xs) (m p (map (λ x. x.tree) xs)) rise)
+      by-line (Some m) None h rise = absurd h
+      by-line None (Some r) h rise = absurd h
+      by-line None None h rise = neither refl
 
   never-kept : (kind : ℕ) (p : Payload) (xs : List Typed) → Any (λ x. ⊥) xs → IfDone (λ x. ⊥) (make_typed c kind p xs)
   never-kept kind p xs h = absurd (never h)

@@ -1,8 +1,7 @@
 -- When a byte string writes a tree: document 01, "Records" (children are smaller record numbers, each taken once, the last record is the
 -- root) and the tree check's order in "Numbers the console shows". What a record is made into is a parameter: Tree.antt makes fragments of
 -- records, TreeCheck.antt fragments with their types, Rules.antt types and heights alone.
-use Rattle.std.specs.Prelude.{ℕ, zero, suc, List, [], ◌∷◌, ◌++◌, get_or, set, take, drop}
-use Rattle.std.proofs.Math.Option.{Option, none, some}
+use Rattle.std.specs.Prelude.{ℕ, zero, suc, List, [], ◌∷◌, ◌++◌, get_or, set, take, drop, Option, None, Some}
 use Rattle.records.specs.Payloads.{Payload, children_of}
 use Rattle.records.specs.RecordForm.{record_length, kind_of, fragment_payload}
 
@@ -39,8 +38,8 @@ map_answer f (refused n) = refused n
 map_answer f (done a) = done (f a)
 
 abbrev pub or_refuse : {A : Type 0} → ℕ → Option A → Answer A
-or_refuse n (some a) = done a
-or_refuse n none = refused n
+or_refuse n (Some a) = done a
+or_refuse n None = refused n
 
 -- One slot for each record read so far, in order: what the record was made into, or nothing once a later record has taken it as a child.
 abbrev pub Slots : Type 0 → Type 0
@@ -52,28 +51,28 @@ pub record Taken (A : Type 0) : Type 0 where
   pub left : Slots A
 
 abbrev pub and_first : {A : Type 0} → Option A → Option (Taken A) → Option (Taken A)
-and_first (some x) (some t) = some (record { those = x ∷ t.those; left = t.left })
-and_first (some x) none = none
-and_first none t = none
+and_first (Some x) (Some t) = Some (record { those = x ∷ t.those; left = t.left })
+and_first (Some x) None = None
+and_first None t = None
 
 -- Children are taken from left to right, each where its slot holds something: a child that is not there, or is taken already, is none.
 unfoldable pub take_all : {A : Type 0} → List ℕ → Slots A → Option (Taken A)
-take_all [] slots = some (record { those = []; left = slots })
-take_all (j ∷ js) slots = and_first (get_or slots j none) (take_all js (set slots j none))
+take_all [] slots = Some (record { those = []; left = slots })
+take_all (j ∷ js) slots = and_first (get_or slots j None) (take_all js (set slots j None))
 
 -- the root: the last slot, every other being taken
 unfoldable pub root_of : {A : Type 0} → Slots A → Option A
-root_of [] = none
+root_of [] = None
 root_of (x ∷ []) = x
-root_of (none ∷ x ∷ slots) = root_of (x ∷ slots)
-root_of (some y ∷ x ∷ slots) = none
+root_of (None ∷ x ∷ slots) = root_of (x ∷ slots)
+root_of (Some y ∷ x ∷ slots) = None
 
 module _ {A : Type 0} (make : ℕ → Payload → List A → Answer A) where
   -- the slots once a record has been made of the children that it took
   abbrev pub add_made : (kind : ℕ) → Payload → Taken A → Answer (Slots A)
   add_made kind payload taken = do
     x ← make kind payload taken.those
-    done (taken.left ++ (some x ∷ []))
+    done (taken.left ++ (Some x ∷ []))
 
   -- the slots once a record of this kind and payload has been read
   abbrev pub add_payload : Slots A → (kind : ℕ) → Payload → Answer (Slots A)

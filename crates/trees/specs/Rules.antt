@@ -1,11 +1,9 @@
 -- The type of a record's fragment from the types of its children alone: the rules of types/mod.rs under document 01's kinds; and its height from theirs.
 -- The tree check computes these; proofs/Rules.antt and proofs/Heights.antt show that they give what TreeCheck.antt asks for.
-use Rattle.std.specs.Prelude.{ℕ, suc, max, List, [], ◌∷◌, map}
-use Rattle.std.proofs.Math.Option.{Option, none, some}
+use Rattle.correctness.specs.declared.TypeError.{TypeError}
+use Rattle.std.specs.Prelude.{ℕ, suc, max, List, [], ◌∷◌, map, Option, None, Some, Result, Ok, Err}
 use Rattle.records.specs.Payloads.{Payload, k_of}
 use Rattle.types.specs.declared.«Type».{«Type»}
-use Rattle.types.specs.declared.TypeResult.{TypeResult}
-use Rattle.types.specs.declared.TypeResult.TheVariants.{Ok, IllTyped}
 use Rattle.types.specs.TypeRules as rule
 use Rattle.contexts.specs.declared.Context.{Context}
 use Rattle.trees.specs.Typing.{in_segwitv0, in_tap}
@@ -18,37 +16,37 @@ use Rattle.trees.specs.TreeCheck.{if_low}
 abbrev pub Rule : Type 0
 Rule = Context → ℕ → List «Type» → Answer «Type»
 
-abbrev pub answered : TypeResult → Answer «Type»
+abbrev pub answered : Result «Type» TypeError → Answer «Type»
 answered (Ok t) = done t
-answered IllTyped = refused ill_typed
+answered (Err TypeError.IllTyped) = refused ill_typed
 
-abbrev pub of_none : (Context → TypeResult) → Rule
+abbrev pub of_none : (Context → Result «Type» TypeError) → Rule
 of_none rule c k [] = answered (rule c)
 of_none rule c k (t ∷ ts) = refused bad_tree
 
-abbrev pub of_one : («Type» → TypeResult) → Rule
+abbrev pub of_one : («Type» → Result «Type» TypeError) → Rule
 of_one rule c k [] = refused bad_tree
 of_one rule c k (t ∷ []) = answered (rule t)
 of_one rule c k (t ∷ u ∷ ts) = refused bad_tree
 
 -- a rule that asks for the context
-abbrev pub of_one_in : (Context → «Type» → TypeResult) → Rule
+abbrev pub of_one_in : (Context → «Type» → Result «Type» TypeError) → Rule
 of_one_in rule c = of_one (rule c) c
 
-abbrev pub of_two : («Type» → «Type» → TypeResult) → Rule
+abbrev pub of_two : («Type» → «Type» → Result «Type» TypeError) → Rule
 of_two rule c k [] = refused bad_tree
 of_two rule c k (t ∷ []) = refused bad_tree
 of_two rule c k (t ∷ u ∷ []) = answered (rule t u)
 of_two rule c k (t ∷ u ∷ v ∷ ts) = refused bad_tree
 
-abbrev pub of_three : («Type» → «Type» → «Type» → TypeResult) → Rule
+abbrev pub of_three : («Type» → «Type» → «Type» → Result «Type» TypeError) → Rule
 of_three rule c k [] = refused bad_tree
 of_three rule c k (t ∷ []) = refused bad_tree
 of_three rule c k (t ∷ u ∷ []) = refused bad_tree
 of_three rule c k (t ∷ u ∷ v ∷ []) = answered (rule t u v)
 of_three rule c k (t ∷ u ∷ v ∷ w ∷ ts) = refused bad_tree
 
-abbrev pub of_all : (ℕ → List «Type» → TypeResult) → Rule
+abbrev pub of_all : (ℕ → List «Type» → Result «Type» TypeError) → Rule
 of_all rule c k ts = answered (rule k ts)
 
 abbrev pub always : «Type» → Rule
@@ -86,8 +84,8 @@ rules =
     ∷ []
 
 abbrev pub given_by : Option Rule → Rule
-given_by (some rule) c k ts = rule c k ts
-given_by none c k ts = refused bad_tree
+given_by (Some rule) c k ts = rule c k ts
+given_by None c k ts = refused bad_tree
 
 abbrev pub rule_of : ℕ → Rule
 rule_of kind = given_by (find kind rules)

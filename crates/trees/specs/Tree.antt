@@ -1,6 +1,5 @@
 -- The fragment tree that bytes write: document 01, "Records", its fragment kinds 32 to 58 with their payloads.
-use Rattle.std.specs.Prelude.{ℕ, cond, List, [], ◌∷◌, eqb}
-use Rattle.std.proofs.Math.Option.{Option, none, some}
+use Rattle.std.specs.Prelude.{ℕ, cond, List, [], ◌∷◌, eqb, Option, None, Some}
 use Rattle.records.specs.Payloads.{Payload, number_of, k_of, keys_of}
 use Rattle.contexts.specs.Leaves.{After, Older, Sha256, Hash256, Ripemd160, Hash160}
 use Rattle.trees.specs.Fragment.{Fragment, Fragments, end, ◌▹◌}
@@ -19,49 +18,49 @@ abbrev pub ◌is◌ : {A : Type 0} → ℕ → A → Line A
 kind is a = record { kind = kind; this = a }
 
 unfoldable pub find : {A : Type 0} → ℕ → List (Line A) → Option A
-find kind [] = none
-find kind (line ∷ lines) = cond (eqb kind line.kind) (some line.this) (find kind lines)
+find kind [] = None
+find kind (line ∷ lines) = cond (eqb kind line.kind) (Some line.this) (find kind lines)
 
 -- how a record's payload and its children, already made, become a fragment
 abbrev pub Maker : Type 0
 Maker = Payload → List Fragment → Option Fragment
 
 abbrev pub plain : Fragment → Maker
-plain f payload [] = some f
-plain f payload (x ∷ xs) = none
+plain f payload [] = Some f
+plain f payload (x ∷ xs) = None
 
 abbrev pub with_number : (ℕ → Fragment) → Maker
-with_number f payload [] = some (f (number_of payload))
-with_number f payload (x ∷ xs) = none
+with_number f payload [] = Some (f (number_of payload))
+with_number f payload (x ∷ xs) = None
 
 abbrev pub one : (Fragment → Fragment) → Maker
-one f payload [] = none
-one f payload (x ∷ []) = some (f x)
-one f payload (x ∷ y ∷ xs) = none
+one f payload [] = None
+one f payload (x ∷ []) = Some (f x)
+one f payload (x ∷ y ∷ xs) = None
 
 abbrev pub two : (Fragment → Fragment → Fragment) → Maker
-two f payload [] = none
-two f payload (x ∷ []) = none
-two f payload (x ∷ y ∷ []) = some (f x y)
-two f payload (x ∷ y ∷ z ∷ xs) = none
+two f payload [] = None
+two f payload (x ∷ []) = None
+two f payload (x ∷ y ∷ []) = Some (f x y)
+two f payload (x ∷ y ∷ z ∷ xs) = None
 
 abbrev pub three : (Fragment → Fragment → Fragment → Fragment) → Maker
-three f payload [] = none
-three f payload (x ∷ []) = none
-three f payload (x ∷ y ∷ []) = none
-three f payload (x ∷ y ∷ z ∷ []) = some (f x y z)
-three f payload (x ∷ y ∷ z ∷ w ∷ xs) = none
+three f payload [] = None
+three f payload (x ∷ []) = None
+three f payload (x ∷ y ∷ []) = None
+three f payload (x ∷ y ∷ z ∷ []) = Some (f x y z)
+three f payload (x ∷ y ∷ z ∷ w ∷ xs) = None
 
 unfoldable pub fragments : List Fragment → Fragments
 fragments [] = end
 fragments (x ∷ xs) = x ▹ fragments xs
 
 abbrev pub of_children : (ℕ → Fragments → Fragment) → Maker
-of_children f payload xs = some (f (k_of payload) (fragments xs))
+of_children f payload xs = Some (f (k_of payload) (fragments xs))
 
 abbrev pub of_keys : (ℕ → List ℕ → Fragment) → Maker
-of_keys f payload [] = some (f (k_of payload) (keys_of payload))
-of_keys f payload (x ∷ xs) = none
+of_keys f payload [] = Some (f (k_of payload) (keys_of payload))
+of_keys f payload (x ∷ xs) = None
 
 abbrev pub makers : List (Line Maker)
 makers =
@@ -95,8 +94,8 @@ makers =
     ∷ []
 
 abbrev pub made_by : Option Maker → Maker
-made_by (some maker) payload xs = maker payload xs
-made_by none payload xs = none
+made_by (Some maker) payload xs = maker payload xs
+made_by None payload xs = None
 
 abbrev pub fragment_of : ℕ → Maker
 fragment_of kind = made_by (find kind makers)

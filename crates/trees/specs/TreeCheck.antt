@@ -1,11 +1,9 @@
 -- The tree check: document 01, "Numbers the console shows", 1, 2 and 14 to 16, in the order that the paragraph below the table gives; and document 02,
 -- R-8: 19 for a record that is too tall, after 15 for the same record.
-use Rattle.std.specs.Prelude.{ℕ, ◌≤◌, cond, List, map, ◌≡◌, ◌↔◌, eqb, leb}
-use Rattle.std.proofs.Math.Option.{Option, none, some}
+use Rattle.correctness.specs.declared.TypeError.{TypeError}
+use Rattle.std.specs.Prelude.{ℕ, ◌≤◌, cond, List, map, ◌≡◌, ◌↔◌, eqb, leb, Option, None, Some, Result, Ok, Err}
 use Rattle.records.specs.Payloads.{Payload}
 use Rattle.types.specs.declared.«Type».{«Type»}
-use Rattle.types.specs.declared.TypeResult.{TypeResult}
-use Rattle.types.specs.declared.TypeResult.TheVariants.{Ok, IllTyped}
 use Rattle.contexts.specs.declared.Context.{Context}
 use Rattle.contexts.specs.declared.Context.TheVariants.{Segwitv0, Tap}
 use Rattle.trees.specs.Fragment.{Fragment}
@@ -29,9 +27,9 @@ pub record Typed : Type 0 where
 abbrev pub if_low : {A : Type 0} → (height : ℕ) → A → Answer A
 if_low height a = cond (leb height max_height) (done a) (refused tree_too_tall)
 
-abbrev pub typed : Fragment → TypeResult → Answer Typed
+abbrev pub typed : Fragment → Result «Type» TypeError → Answer Typed
 typed f (Ok t) = if_low (height_of f) (record { tree = f; type = t })
-typed f IllTyped = refused ill_typed
+typed f (Err TypeError.IllTyped) = refused ill_typed
 
 -- a record's own fragment, if there is one, it is well-typed and not too tall
 abbrev pub made : Context → Option Fragment → Answer Typed
@@ -48,11 +46,11 @@ typed_tree_of c bytes = read_tree (make_typed c) bytes
 
 -- document 01's numbers of the contexts
 abbrev pub context_of : ℕ → Option Context
-context_of n = cond (eqb n 0) (some Segwitv0) (cond (eqb n 1) (some Tap) none)
+context_of n = cond (eqb n 0) (Some Segwitv0) (cond (eqb n 1) (Some Tap) None)
 
 -- work memory has one word for each record that a tree may have
 abbrev pub work_of : ℕ → Option ℕ
-work_of words = cond (eqb words max_records) (some words) none
+work_of words = cond (eqb words max_records) (Some words) None
 
 -- the check of a tree in a context, with work memory of so many words
 abbrev pub check_in : Context → List ℕ → ℕ → Answer Typed
@@ -70,5 +68,5 @@ check_of context bytes words = do
 -- type.
 abbrev pub PassesWellTypedTrees : Type 0
 PassesWellTypedTrees =
-    (context : ℕ) (c : Context) (bytes : List ℕ) (x : Typed) → context_of context ≡ some c
+    (context : ℕ) (c : Context) (bytes : List ℕ) (x : Typed) → context_of context ≡ Some c
     → (check_of context bytes max_records ≡ done x) ↔ ((tree_of bytes ≡ done x.tree) × (type_of c x.tree ≡ Ok x.type) × (height_of x.tree ≤ max_height))

@@ -1,9 +1,7 @@
 -- The type of a fragment tree, from the type rules of types/mod.rs and document 01's refusal 15 (Multi only in context 0, MultiA only in 1).
-use Rattle.std.specs.Prelude.{List, [], ◌∷◌}
-use Rattle.std.proofs.Math.Option.{Option, none, some}
+use Rattle.correctness.specs.declared.TypeError.{TypeError}
+use Rattle.std.specs.Prelude.{List, [], ◌∷◌, Option, None, Some, Result, Ok, Err}
 use Rattle.types.specs.declared.«Type».{«Type»}
-use Rattle.types.specs.declared.TypeResult.{TypeResult}
-use Rattle.types.specs.declared.TypeResult.TheVariants.{Ok, IllTyped}
 use Rattle.types.specs.TypeRules as rule
 use Rattle.contexts.specs.declared.Context.{Context}
 use Rattle.contexts.specs.declared.Context.TheVariants.{Segwitv0, Tap}
@@ -13,31 +11,31 @@ use Rattle.trees.specs.Fragment.{AndB, AndV, OrB, OrD, OrC, OrI, AndOr, Thresh, 
 
 infixl 20 ◌>>=◌
 -- A rule is asked only where the child is well-typed.
-abbrev pub ◌>>=◌ : TypeResult → («Type» → TypeResult) → TypeResult
+abbrev pub ◌>>=◌ : Result «Type» TypeError → («Type» → Result «Type» TypeError) → Result «Type» TypeError
 Ok t >>= rule = rule t
-IllTyped >>= rule = IllTyped
+(Err TypeError.IllTyped) >>= rule = Err TypeError.IllTyped
 
 -- The same of all children of a Thresh.
-abbrev pub all_typed : Option (List «Type») → (List «Type» → TypeResult) → TypeResult
-all_typed (some ts) rule = rule ts
-all_typed none rule = IllTyped
+abbrev pub all_typed : Option (List «Type») → (List «Type» → Result «Type» TypeError) → Result «Type» TypeError
+all_typed (Some ts) rule = rule ts
+all_typed None rule = Err TypeError.IllTyped
 
-abbrev pub and_all : TypeResult → Option (List «Type») → Option (List «Type»)
-and_all (Ok t) (some ts) = some (t ∷ ts)
-and_all (Ok t) none = none
-and_all IllTyped ts = none
+abbrev pub and_all : Result «Type» TypeError → Option (List «Type») → Option (List «Type»)
+and_all (Ok t) (Some ts) = Some (t ∷ ts)
+and_all (Ok t) None = None
+and_all (Err TypeError.IllTyped) ts = None
 
 -- The two fragments that belong to one context.
-abbrev pub in_segwitv0 : Context → «Type» → TypeResult
+abbrev pub in_segwitv0 : Context → «Type» → Result «Type» TypeError
 in_segwitv0 Segwitv0 t = Ok t
-in_segwitv0 Tap t = IllTyped
+in_segwitv0 Tap t = Err TypeError.IllTyped
 
-abbrev pub in_tap : Context → «Type» → TypeResult
-in_tap Segwitv0 t = IllTyped
+abbrev pub in_tap : Context → «Type» → Result «Type» TypeError
+in_tap Segwitv0 t = Err TypeError.IllTyped
 in_tap Tap t = Ok t
 
 unfoldable mutual
-  pub type_of : Context → Fragment → TypeResult
+  pub type_of : Context → Fragment → Result «Type» TypeError
   type_of c False = Ok rule.FALSE
   type_of c True = Ok rule.TRUE
   type_of c (PkK n) = Ok rule.pk_k
@@ -63,5 +61,5 @@ unfoldable mutual
   type_of c (MultiA k keys) = in_tap c rule.multi_a
 
   pub types_of : Context → Fragments → Option (List «Type»)
-  types_of c end = some []
+  types_of c end = Some []
   types_of c (x ▹ xs) = and_all (type_of c x) (types_of c xs)

@@ -5,8 +5,7 @@
 // specs/TreeCheck.antt; those of the inner functions cite specs/Rules.antt and specs/WorkMemory.antt.
 #![tactic(auto)]
 
-ghost use Rattle.std.specs.Prelude.{[], ◌∷◌, ◌++◌, ◌≡◌, ℕ, max, ◌+◌, ◌-◌, ◌<◌, ◌≤◌, length, get_or, set, take};
-ghost use Rattle.std.proofs.Math.Option.{none, some};
+ghost use Rattle.std.specs.Prelude.{[], ◌∷◌, ◌++◌, ◌≡◌, ℕ, max, ◌+◌, ◌-◌, ◌<◌, ◌≤◌, length, get_or, set, take, None, Some};
 ghost use Rattle.types.specs.TypeRules.{multi, multi_a};
 ghost use Rattle.trees.specs.Typing.{in_segwitv0, in_tap};
 ghost use Rattle.trees.specs.Height.{max_height};
@@ -14,54 +13,20 @@ ghost use Rattle.trees.specs.Reading.{done, or_refuse, bad_tree, max_records, ta
 ghost use Rattle.trees.specs.Rules.{answered, rule_of, types_of, tallest, make_subtree};
 ghost use Rattle.trees.specs.TreeCheck.{check_of, check_in};
 ghost use Rattle.trees.specs.Checked.{answer_of, type_only};
-ghost use Rattle.trees.specs.WorkMemory.{slot_of, slots_in, slot_answer, children_taken, type_in, Placed, Stepped};
+ghost use Rattle.trees.specs.WorkMemory.{slot_of, slots_in, children_taken, type_in, Placed, Stepped};
 ghost use Rattle.records.specs.Shapes.{arity};
 ghost use Rattle.words.specs.Memory.{zeroed};
 
 use contexts::Context;
-use records::RecordLength;
-use types::{Type, TypeResult, Unpacked};
-
-// What the tree check answers: the root's type, or a refusal.
-#[derive(Clone, Copy)]
-pub enum Checked {
-    BadContext,
-    BadWork,
-    BadTree,
-    IllTyped,
-    TreeTooLarge,
-    TreeTooTall,
-    Typed(Type),
-}
+use correctness::TypeError;
+use refusals::Refusal;
+use types::Type;
 
 // The type of a tree, and how tall it is.
 #[derive(Clone, Copy)]
 pub struct Subtree {
     pub ty: Type,
     pub height: u64,
-}
-
-// What a record's slot holds: the tree that no later record has taken, or nothing.
-#[derive(Clone, Copy)]
-pub enum Slot {
-    Free(Subtree),
-    Taken,
-}
-
-// A record's children, if all could be taken.
-#[derive(Clone, Copy)]
-pub struct Children {
-    pub taken: bool,
-    pub subtrees: [Subtree; 16],
-}
-
-// How reading one record ends: with the number of children that it took, or with a refusal.
-#[derive(Clone, Copy)]
-pub enum Step {
-    Next(usize),
-    BadTree,
-    IllTyped,
-    TooTall,
 }
 
 // The most records that a tree may have; work memory has a word for each.
@@ -78,6 +43,7 @@ fn leaf_type(kind: u16) -> Type
     requires { (32 ≤ kind) × (kind ≤ 41) }
     ensures { (c : Context) (k : ℕ) → rule_of kind c k [] ≡ done result }
 {
+    // A kind stays a number: a record or a node holds one, and the contract answers on every number.
     match kind {
         32 => Type::of_false(),
         33 => Type::of_true(),
@@ -90,10 +56,11 @@ fn leaf_type(kind: u16) -> Type
 }
 
 // The type of a cast of kind 42 to 48.
-fn cast_type(context: Context, kind: u16, x: Type) -> TypeResult
+fn cast_type(context: Context, kind: u16, x: Type) -> Result<Type, TypeError>
     requires { (42 ≤ kind) × (kind ≤ 48) }
     ensures { (k : ℕ) → rule_of kind context k (x ∷ []) ≡ answered result }
 {
+    // A kind stays a number: a record or a node holds one, and the contract answers on every number.
     match kind {
         42 => x.cast_alt(),
         43 => x.cast_swap(),
@@ -106,10 +73,11 @@ fn cast_type(context: Context, kind: u16, x: Type) -> TypeResult
 }
 
 // The type of a pair of kind 49 to 54.
-fn pair_type(kind: u16, x: Type, y: Type) -> TypeResult
+fn pair_type(kind: u16, x: Type, y: Type) -> Result<Type, TypeError>
     requires { (49 ≤ kind) × (kind ≤ 54) }
     ensures { (c : Context) (k : ℕ) → rule_of kind c k (x ∷ y ∷ []) ≡ answered result }
 {
+    // A kind stays a number: a record or a node holds one, and the contract answers on every number.
     match kind {
         49 => Type::and_b(x, y),
         50 => Type::and_v(x, y),
@@ -121,76 +89,69 @@ fn pair_type(kind: u16, x: Type, y: Type) -> TypeResult
 }
 
 // The type of Multi, which SegWit v0 alone has.
-fn multi_type(context: Context) -> TypeResult
+fn multi_type(context: Context) -> Result<Type, TypeError>
     ensures { result ≡ in_segwitv0 context multi }
 {
     match context {
-        Context::Segwitv0 => TypeResult::Ok(Type::multi()),
-        Context::Tap => TypeResult::IllTyped,
+        Context::Segwitv0 => Ok(Type::multi()),
+        Context::Tap => Err(TypeError::IllTyped),
     }
 }
 
 // The type of MultiA, which Tapscript alone has.
-fn multi_a_type(context: Context) -> TypeResult
+fn multi_a_type(context: Context) -> Result<Type, TypeError>
     ensures { result ≡ in_tap context multi_a }
 {
     match context {
-        Context::Segwitv0 => TypeResult::IllTyped,
-        Context::Tap => TypeResult::Ok(Type::multi_a()),
+        Context::Segwitv0 => Err(TypeError::IllTyped),
+        Context::Tap => Ok(Type::multi_a()),
     }
 }
 
 // What a word of work memory holds.
-pub fn slot_of(word: u64) -> Slot
-    ensures { result ≡ slot_answer (slot_of word) }
+pub fn slot_of(word: u64) -> Option<Subtree>
+    ensures { result ≡ slot_of word }
 {
     let packed = word % HEIGHTS;
     if packed == 0 {
-        return Slot::Taken;
+        return None;
     }
-    match Type::unpack((packed - 1) as u32) {
-        Unpacked::Is(ty) => Slot::Free(Subtree {
-            ty,
-            height: word / HEIGHTS,
-        }),
-        Unpacked::NotAType => Slot::Taken,
-    }
+    let ty = Type::unpack((packed - 1) as u32)?;
+    Some(Subtree {
+        ty,
+        height: word / HEIGHTS,
+    })
 }
 
 // The type of a record of this kind, that has `count` children or keys, from the types of its children.
-pub fn rule_of(context: Context, kind: u16, k: usize, count: usize, types: [Type; 16]) -> TypeResult
+pub fn rule_of(
+    context: Context,
+    kind: u16,
+    k: usize,
+    count: usize,
+    types: [Type; 16],
+) -> Result<Type, TypeError>
     requires { (32 ≤ kind) × (kind ≤ 58) × (count ≤ 16) }
     ensures { rule_of kind context k (take (arity kind count) types) ≡ answered result }
 {
+    // A kind stays a number: a record or a node holds one, and the contract answers on every number.
     match kind {
-        32..=41 => TypeResult::Ok(leaf_type(kind)),
-        42..=48 => {
-            let x = types[0];
-            cast_type(context, kind, x)
-        }
-        49..=54 => {
-            let x = types[0];
-            let y = types[1];
-            pair_type(kind, x, y)
-        }
-        55 => {
-            let x = types[0];
-            let y = types[1];
-            let z = types[2];
-            Type::and_or(x, y, z)
-        }
+        32..=41 => Ok(leaf_type(kind)),
+        42..=48 => { cast_type(context, kind, types[0]) }
+        49..=54 => { pair_type(kind, types[0], types[1]) }
+        55 => { Type::and_or(types[0], types[1], types[2]) }
         56 => Type::threshold(k, count, types),
         57 => multi_type(context),
         58 => multi_a_type(context),
-        _ => TypeResult::IllTyped,
+        _ => Err(TypeError::IllTyped),
     }
 }
 
 // Takes a child from the slots of the first `read` records and says what it held.
-fn take_child(work: &mut [u64], read: usize, child: usize) -> Slot
+fn take_child(work: &mut [u64], read: usize, child: usize) -> Option<Subtree>
     requires { read ≤ length work.old }
-    ensures value { result ≡ slot_answer (get_or (slots_in work.old read) child none) }
-    ensures read_after { slots_in work.new read ≡ set (slots_in work.old read) child none }
+    ensures value { result ≡ get_or (slots_in work.old read) child None }
+    ensures read_after { slots_in work.new read ≡ set (slots_in work.old read) child None }
     ensures work_len_unchanged { length work.new ≡ length work.old }
 {
     if child < read {
@@ -198,11 +159,16 @@ fn take_child(work: &mut [u64], read: usize, child: usize) -> Slot
         work[child] = 0;
         return slot_of(word);
     }
-    Slot::Taken
+    None
 }
 
-// Takes the first n of some children, from left to right.
-fn take_children(work: &mut [u64], read: usize, children: [u16; 16], n: usize) -> Children
+// Takes the first n of some children, from left to right, if all are there.
+fn take_children(
+    work: &mut [u64],
+    read: usize,
+    children: [u16; 16],
+    n: usize,
+) -> Option<[Subtree; 16]>
     requires { (read ≤ length work.old) × (n ≤ 16) }
     ensures read_value { take_all (take n children) (slots_in work.old read) ≡ children_taken result n (slots_in work.new read) }
     ensures work_len_unchanged { length work.new ≡ length work.old }
@@ -212,22 +178,11 @@ fn take_children(work: &mut [u64], read: usize, children: [u16; 16], n: usize) -
         height: 0,
     };
     let mut subtrees = [none; 16];
-    let mut i = 0;
-    while i < n {
+    for i in 0..n {
         let child = children[i] as usize;
-        let Slot::Free(x) = take_child(work, read, child) else {
-            return Children {
-                taken: false,
-                subtrees,
-            };
-        };
-        subtrees[i] = x;
-        i += 1;
+        subtrees[i] = take_child(work, read, child)?;
     }
-    Children {
-        taken: true,
-        subtrees,
-    }
+    Some(subtrees)
 }
 
 // The types of some trees.
@@ -236,21 +191,10 @@ pub fn types_of(subtrees: [Subtree; 16]) -> [Type; 16]
 {
     let none = Type::of_false();
     let mut types = [none; 16];
-    let mut i = 0;
-    while i < 16 {
-        let x = subtrees[i];
-        let ty = x.ty;
-        types[i] = ty;
-        i += 1;
+    for i in 0..16 {
+        types[i] = subtrees[i].ty;
     }
     types
-}
-
-// The greater of two numbers.
-fn greater(a: u64, b: u64) -> u64
-    ensures { result ≡ max a b }
-{
-    if a < b { b } else { a }
 }
 
 // How tall the tallest of the first n trees is, and 0 for none.
@@ -258,12 +202,9 @@ pub fn tallest(subtrees: [Subtree; 16], n: usize) -> u64
     requires { n ≤ 16 }
     ensures { result ≡ tallest (take n subtrees) }
 {
-    let mut tall = 0;
-    let mut i = 0;
-    while i < n {
-        let x = subtrees[i];
-        tall = greater(tall, x.height);
-        i += 1;
+    let mut tall = 0u64;
+    for i in 0..n {
+        tall = tall.max(subtrees[i].height);
     }
     tall
 }
@@ -271,7 +212,7 @@ pub fn tallest(subtrees: [Subtree; 16], n: usize) -> u64
 // Adds a slot that holds a tree behind those of the first `read` records.
 fn add_slot(work: &mut [u64], read: usize, x: Subtree)
     requires { (read < length work.old) × (x.height ≤ max_height) }
-    ensures read_after { slots_in work.new (read + 1) ≡ slots_in work.old read ++ (some x ∷ []) }
+    ensures read_after { slots_in work.new (read + 1) ≡ slots_in work.old read ++ (Some x ∷ []) }
     ensures work_len_unchanged { length work.new ≡ length work.old }
 {
     let ty = x.ty;
@@ -279,69 +220,68 @@ fn add_slot(work: &mut [u64], read: usize, x: Subtree)
 }
 
 // Adds the slot of a well-typed record with n children, unless it is too tall.
-fn add_record(work: &mut [u64], read: usize, ty: Type, children: [Subtree; 16], n: usize) -> Step
+fn add_record(
+    work: &mut [u64],
+    read: usize,
+    ty: Type,
+    children: [Subtree; 16],
+    n: usize,
+) -> Result<usize, Refusal>
     requires { (read < length work.old) × (n ≤ 16) }
     ensures { Placed work.old work.new read ty (take n children) n result }
 {
     let below = tallest(children, n);
     if below >= MAX_HEIGHT {
-        return Step::TooTall;
+        return Err(Refusal::TreeTooTall);
     }
     let x = Subtree {
         ty,
         height: below + 1,
     };
     add_slot(work, read, x);
-    Step::Next(n)
+    Ok(n)
 }
 
 // Reads a whole record when `read` records are read: takes its children and adds its own slot.
-fn check_record(context: Context, bytes: &[u8], work: &mut [u64], read: usize) -> Step
+fn check_record(
+    context: Context,
+    bytes: &[u8],
+    work: &mut [u64],
+    read: usize,
+) -> Result<usize, Refusal>
     requires { read < length work.old }
     ensures { Stepped context bytes.now work.old work.new read result }
 {
     let parts = records::fragment_parts(bytes);
-    let fits = parts.fits;
-    if fits {
-        let kind = records::kind_of(bytes);
-        let count = parts.count;
-        let n = records::arity(kind, count);
-        let numbers = parts.children;
-        let children = take_children(work, read, numbers, n);
-        let taken = children.taken;
-        if taken {
-            let k = parts.k as usize;
-            let subtrees = children.subtrees;
-            match rule_of(context, kind, k, count, types_of(subtrees)) {
-                TypeResult::Ok(ty) => {
-                    return add_record(work, read, ty, subtrees, n);
-                }
-                TypeResult::IllTyped => {
-                    return Step::IllTyped;
-                }
-            }
-        }
+    if !parts.fits {
+        return Err(Refusal::BadTree);
     }
-    Step::BadTree
+    let kind = records::kind_of(bytes);
+    let n = records::arity(kind, parts.count);
+    let Some(subtrees) = take_children(work, read, parts.children, n) else {
+        return Err(Refusal::BadTree);
+    };
+    let types = types_of(subtrees);
+    let Ok(ty) = rule_of(context, kind, parts.k as usize, parts.count, types) else {
+        return Err(Refusal::IllTyped);
+    };
+    add_record(work, read, ty, subtrees, n)
 }
 
 // The type of the root where one of `read` slots is free, which is the last.
-fn root_type(work: &mut [u64], read: usize) -> Checked
+fn root_type(work: &mut [u64], read: usize) -> Result<Type, Refusal>
     requires { (1 ≤ read) × (read ≤ length work.old) }
-    ensures result_value { answer_of result ≡ type_in (or_refuse bad_tree (get_or (slots_in work.old read) (read - 1) none)) }
+    ensures result_value { answer_of result ≡ type_in (or_refuse bad_tree (get_or (slots_in work.old read) (read - 1) None)) }
     ensures work_unchanged { work.new ≡ work.old }
 {
-    match slot_of(work[read - 1]) {
-        Slot::Free(x) => {
-            let ty = x.ty;
-            Checked::Typed(ty)
-        }
-        Slot::Taken => Checked::BadTree,
-    }
+    let Some(root) = slot_of(work[read - 1]) else {
+        return Err(Refusal::BadTree);
+    };
+    Ok(root.ty)
 }
 
 // Reads all records of a tree.
-fn check_records(context: Context, tree: &[u8], work: &mut [u64]) -> Checked
+fn check_records(context: Context, tree: &[u8], work: &mut [u64]) -> Result<Type, Refusal>
     requires { length work.old ≡ max_records }
     ensures result_value { answer_of result ≡ type_in (read_tree (make_subtree context) tree.now) }
     ensures work_len_unchanged { length work.new ≡ length work.old }
@@ -349,53 +289,42 @@ fn check_records(context: Context, tree: &[u8], work: &mut [u64]) -> Checked
     let mut at = 0;
     let mut read = 0;
     let mut free = 0;
+    // A `while`, since records are of unequal length.
     while at < tree.len() {
         if read == MAX_RECORDS {
-            return Checked::TreeTooLarge;
+            return Err(Refusal::TreeTooLarge);
         }
-        let RecordLength::Whole(len) = records::length_at(tree, at) else {
-            return Checked::BadTree;
+        let Some(len) = records::length_at(tree, at) else {
+            return Err(Refusal::BadTree);
         };
         let end = at + len;
-        match check_record(context, &tree[at..end], work, read) {
-            Step::Next(children) => {
-                free = free + 1 - children;
-            }
-            Step::BadTree => {
-                return Checked::BadTree;
-            }
-            Step::IllTyped => {
-                return Checked::IllTyped;
-            }
-            Step::TooTall => {
-                return Checked::TreeTooTall;
-            }
-        }
+        let children = check_record(context, &tree[at..end], work, read)?;
+        free = free + 1 - children;
         at = end;
         read += 1;
     }
     if free == 1 {
         return root_type(work, read);
     }
-    Checked::BadTree
+    Err(Refusal::BadTree)
 }
 
 // The tree check in one context.
-fn check_in(context: Context, tree: &[u8], work: &mut [u64]) -> Checked
+fn check_in(context: Context, tree: &[u8], work: &mut [u64]) -> Result<Type, Refusal>
     ensures result_value { answer_of result ≡ type_only (check_in context tree.now (length work.old)) }
     ensures work_after { work.new ≡ zeroed work.old }
 {
-    if work.len() == MAX_RECORDS {
-        let r = check_records(context, tree, work);
+    if work.len() != MAX_RECORDS {
         words::clear(work);
-        return r;
+        return Err(Refusal::BadWork);
     }
+    let r = check_records(context, tree, work);
     words::clear(work);
-    Checked::BadWork
+    r
 }
 
 // The tree check: the type of the tree that some bytes write in a context, or its refusal. Work memory is zero afterwards.
-pub fn check(context: u32, tree: &[u8], work: &mut [u64]) -> Checked
+pub fn check(context: u32, tree: &[u8], work: &mut [u64]) -> Result<Type, Refusal>
     ensures result_value { answer_of result ≡ type_only (check_of context tree.now (length work.old)) }
     ensures work_after { work.new ≡ zeroed work.old }
 {
@@ -404,7 +333,7 @@ pub fn check(context: u32, tree: &[u8], work: &mut [u64]) -> Checked
         1 => check_in(Context::Tap, tree, work),
         _ => {
             words::clear(work);
-            Checked::BadContext
+            Err(Refusal::BadContext)
         }
     }
 }

@@ -3,7 +3,7 @@ use Prim.Native.Nat.{ℕ, ◌+◌, ◌-◌, ◌≤◌, ◌<◌}
 use mathlib.Core.Bool.{Bool, true, false, cond, ◌&&◌, ◌||◌}
 use mathlib.Core.List.{List, [], ◌∷◌, map}
 use mathlib.Core.Logic.{◌⊎◌, inl, inr}
-use mathlib.Core.Option.{some}
+use Rattle.std.specs.Prelude.{Some}
 use mathlib.Core.Path.{◌≡◌, refl, ap, ◌∙◌}
 use native.Mathlib.Omega.{arith}
 use borrow.Author.Tests.{eqb-true}
@@ -187,7 +187,7 @@ module _ (P : ℕ → Type 0) (kind : ℕ) where
   found d p none = p
   found d p (line {n} {x} {ls} q qs) = by-test (eqb kind n) refl (found d p qs)
     where
-      by-test : (b : Bool) → eqb kind n ≡ b → P (or_else d (find kind ls)) → P (or_else d (cond b (some x) (find kind ls)))
+      by-test : (b : Bool) → eqb kind n ≡ b → P (or_else d (find kind ls)) → P (or_else d (cond b (Some x) (find kind ls)))
       by-test true e rest = q (eqb-true kind n e)
       by-test false e rest = rest
 

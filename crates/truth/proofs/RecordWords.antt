@@ -2,7 +2,7 @@
 use Prim.Native.Nat.{ℕ, zero, suc, ◌+◌, ◌-◌, ◌≤◌, ◌<◌}
 use mathlib.Core.Bool.{Bool, true, false, cond}
 use mathlib.Core.List.{List, [], ◌∷◌, map}
-use mathlib.Core.Option.{Option, some}
+use Rattle.std.specs.Prelude.{Option, Some}
 use mathlib.Core.Path.{◌≡◌, refl, sym, ap, subst, ◌∙◌}
 use native.Mathlib.Omega.{arith}
 use borrow.Author.Tests.{eqb-true, eqb-false}
@@ -140,7 +140,7 @@ record-means {tree} {i} row work r words j known w e =
     same_map (λ s. bit_at (get_or work s 0) j) value (children_of p) (λ k l. known (get_or (children_of p) k 0) (row.before k l)) in
     e
     ∙ ap (λ (o : Option Payload). leb (tree_gate kind (k_here o)) (places_true kind (own_bits r words j (codes_in (head_with kind o))) (bits_at work j (children_here o)))) row.fits
-    ∙ ap (λ (xs : List Bool). leb (tree_gate kind (k_of p)) (places_true kind (own_bits r words j (codes_in (head_with kind (some p)))) xs)) same
+    ∙ ap (λ (xs : List Bool). leb (tree_gate kind (k_of p)) (places_true kind (own_bits r words j (codes_in (head_with kind (Some p)))) xs)) same
     ∙ sym (ap (λ (o : Option Payload). step r words j (head_with kind o) (map value (children_of p))) row.fits)
     ∙ sym (value-at (tree_means (assigned r words j)) (step r words j) (tree-gates r words j) row)
 
@@ -154,7 +154,7 @@ pub record WordsOn (tree work : List ℕ) (row : List Var) (words : List ℕ) (a
 pub words-begin : (tree work : List ℕ) (row : List Var) (words : List ℕ) → length work ≡ 65536 → WordsOn tree work row words 0 0
 words-begin tree work row words room = record { on = begins tree; room = room; each = λ s j h. absurd (omega arith) }
 
-told : {tree : List ℕ} {i : ℕ} (row : TreeRecord tree i) → Told tree i (record_at tree i) (kind_of (record_at tree i)) (parts_of (some row.payload))
+told : {tree : List ℕ} {i : ℕ} (row : TreeRecord tree i) → Told tree i (record_at tree i) (kind_of (record_at tree i)) (parts_of (Some row.payload))
 told row = record { row = row; bytes-are = refl; kind-is = refl; parts_are = refl }
 
 module _ {tree work : List ℕ} {row : List Var} {words : List ℕ} {at i : ℕ} (sofar : WordsOn tree work row words at i) {f : Fragment} (r : TreeRecords tree f) where

@@ -1,6 +1,5 @@
 -- What a record means is 'at least so many of these places': its own variables and its children; of an AndOr of x, y and z that is 2 of x, y, z, z.
-use Rattle.std.specs.Prelude.{ℕ, ◌+◌, ◌≤◌, ◌<◌, Bool, false, cond, List, [], ◌∷◌, map, ◌≡◌, eqb, leb, length, get_or}
-use Rattle.std.proofs.Math.Option.{Option, none, some}
+use Rattle.std.specs.Prelude.{ℕ, ◌+◌, ◌≤◌, ◌<◌, Bool, false, cond, List, [], ◌∷◌, map, ◌≡◌, eqb, leb, length, get_or, Option, None, Some}
 use Rattle.records.specs.Payloads.{Payload, k_of, count_of, children_of}
 use Rattle.records.specs.RecordForm.{kind_of, fragment_payload}
 use Rattle.contexts.specs.Lists.{one}
@@ -12,8 +11,8 @@ use Rattle.variables.specs.Gathering.{codes_in}
 use Rattle.truth.specs.Words.{bit_at, word_for}
 
 abbrev pub or_else : {A : Type 0} → A → Option A → A
-or_else a (some x) = x
-or_else a none = a
+or_else a (Some x) = x
+or_else a None = a
 
 -- how many places must hold, by a record's kind and k
 abbrev pub tree_gate : (kind k : ℕ) → ℕ
@@ -39,16 +38,16 @@ own_bits row words j codes = map (λ x. bit_at (word_for row words x) j) codes
 
 -- k and the children of a record's payload, if it has one
 abbrev pub k_here : Option Payload → ℕ
-k_here (some p) = k_of p
-k_here none = 0
+k_here (Some p) = k_of p
+k_here None = 0
 
 abbrev pub children_here : Option Payload → List ℕ
-children_here (some p) = children_of p
-children_here none = []
+children_here (Some p) = children_of p
+children_here None = []
 
 pub record Stands (bytes work : List ℕ) : Type 0 where
   pub payload : Payload
-  pub fits : fragment_payload bytes ≡ some payload
+  pub fits : fragment_payload bytes ≡ Some payload
   pub inside : (j : ℕ) → j < length (children_of payload) → get_or (children_of payload) j 0 < length work
   pub bounds : 56 ≤ kind_of bytes → (1 ≤ k_of payload) × (k_of payload ≤ count_of payload) × (count_of payload ≤ 16)
 

@@ -47,12 +47,8 @@ fn one_more(c: Counted, x: u64) -> Counted
 {
     let planes = c.planes;
     let mut next = planes;
-    let mut t = 1;
-    while t < 17 {
-        let fewer = planes[t - 1];
-        let same = planes[t];
-        next[t] = same | (fewer & x);
-        t += 1;
+    for t in 1..17 {
+        next[t] = planes[t] | (planes[t - 1] & x);
     }
     Counted { planes: next }
 }
@@ -62,15 +58,11 @@ fn word_for(t: Vars, words: [u64; 12], x: Var) -> u64
     requires { Roomy t }
     ensures { result ≡ word_for (row_of t) words x }
 {
-    let list = t.list;
-    let n = t.len;
-    let mut i = 0;
-    while i < n {
-        let y = list[i];
-        if variables::same(x, y) {
+    for i in 0..t.len {
+        let y = t.list[i];
+        if x == y {
             return words[i];
         }
-        i += 1;
     }
     0
 }
@@ -85,12 +77,9 @@ fn count_own(c: Counted, own: Own, t: Vars, words: [u64; 12]) -> Counted
     let list = own.list;
     let n = own.n;
     let mut all = c;
-    let mut i = 0;
-    while i < n {
-        let x = list[i];
-        let word = word_for(t, words, x);
+    for i in 0..n {
+        let word = word_for(t, words, list[i]);
         all = one_more(all, word);
-        i += 1;
     }
     all
 }
@@ -111,36 +100,34 @@ fn count_children(c: Counted, work: &[u64], numbers: [u16; 16], n: usize) -> Cou
         → Planes result.planes (λ j. count_true (bits_at work.now j (take n numbers)) + count j) }
 {
     let mut all = c;
-    let mut i = 0;
-    while i < n {
+    for i in 0..n {
         let number = numbers[i] as usize;
         let word = word_at(work, number);
         all = one_more(all, word);
-        i += 1;
     }
     all
 }
 
 // How many places of a tree's record must hold.
+#[tactic(auto, unfolding(trees::specs::Tree::find))]
 fn tree_gate(kind: u16, k: u16) -> usize
     ensures { result ≡ tree_gate kind k }
 {
+    // A kind stays a number: a record or a node holds one, and the contract answers on every number.
     match kind {
         33 => 0,
-        49 => 2,
-        50 => 2,
-        55 => 2,
-        56 => k as usize,
-        57 => k as usize,
-        58 => k as usize,
+        49 | 50 | 55 => 2,
+        56..=58 => usize::from(k),
         _ => 1,
     }
 }
 
 // How many places of a policy's record must hold.
+#[tactic(auto, unfolding(trees::specs::Tree::find))]
 fn policy_gate(kind: u64, k: u64) -> usize
     ensures { result ≡ policy_gate kind k }
 {
+    // A kind stays a number: a record or a node holds one, and the contract answers on every number.
     match kind {
         2 => 0,
         10 => 2,
@@ -177,8 +164,7 @@ fn record_word(bytes: &[u8], work: &[u64], t: Vars, words: [u64; 12]) -> u64
     let second = count_children(first, work, numbers, n);
     let counted = count_again(second, work, numbers, kind);
     let gate = tree_gate(kind, parts.k);
-    let planes = counted.planes;
-    planes[gate]
+    counted.planes[gate]
 }
 
 // The word of a tree: its records, children first.
@@ -187,12 +173,12 @@ pub fn tree_word(tree: &[u8], work: &mut [u64], t: Vars, words: [u64; 12]) -> u6
     ensures j_value { (f : Fragment) → TreeRecords tree.now f → (j : ℕ) → j < 64 → bit_at result j ≡ tree_means (assigned (row_of t) words j) f }
     ensures work_len_unchanged { length work.new ≡ length work.old }
 {
+    // Records are of unequal length.
     let mut at = 0;
     let mut i = 0;
     while at < tree.len() {
         let end = walk::record_end(tree, at);
-        let word = record_word(&tree[at..end], work, t, words);
-        work[i] = word;
+        work[i] = record_word(&tree[at..end], work, t, words);
         at = end;
         i += 1;
     }
@@ -203,7 +189,7 @@ pub fn tree_word(tree: &[u8], work: &mut [u64], t: Vars, words: [u64; 12]) -> u6
 fn is_leaf(kind: u64) -> bool
     ensures { result ≡ between 3 9 kind }
 {
-    3 <= kind && kind <= 9
+    matches!(kind, 3..=9)
 }
 
 // The word of record i of a policy.
@@ -214,35 +200,28 @@ pub fn policy_word(pol: &[u64], i: usize, t: Vars, words: [u64; 12]) -> u64
     let head = policies::head_of(pol, i);
     let kind = head.kind;
     if is_leaf(kind) {
-        let number = head.number;
         let x = Var {
             class: kind - 3,
-            number,
+            number: head.number,
         };
         return word_for(t, words, x);
     }
     let n = head.count;
     let mut all = no_places();
-    let mut j = 0;
-    while j < n {
+    for j in 0..n {
         let c = policies::child(pol, i, j);
         let x = policy_word(pol, c, t, words);
         all = one_more(all, x);
-        j += 1;
     }
     let gate = policy_gate(kind, head.k);
-    let planes = all.planes;
-    planes[gate]
+    all.planes[gate]
 }
 
 // All bits where a number is odd, else none.
 fn full(b: u64) -> u64
     ensures { result ≡ full_if (eqb (b % 2) 1) }
 {
-    if b % 2 == 1 {
-        return ALL;
-    }
-    0
+    if b % 2 == 1 { ALL } else { 0 }
 }
 
 // The words of the variables in a block.
@@ -284,12 +263,10 @@ pub fn alike(pol: &[u64], root: usize, tree: &[u8], work: &mut [u64], t: Vars) -
         → Says result (policy_at pol.now root) f }
     ensures work_len_unchanged { length work.new ≡ length work.old }
 {
-    let mut block = 0;
-    while block < BLOCKS {
+    for block in 0..BLOCKS {
         if !block_alike(pol, root, tree, work, t, block) {
             return false;
         }
-        block += 1;
     }
     true
 }

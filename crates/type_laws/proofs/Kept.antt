@@ -1,22 +1,22 @@
 -- Every type that a rule gives arises (specs/Sanity.antt of `types`), if its children do; so it passes the Rust's checks. Assumes nothing.
+use Rattle.correctness.specs.declared.TypeError.{TypeError}
+use Rattle.std.specs.Prelude.{Result}
 use mathlib.Core.Path.{◌≡◌, refl, sym, ap, ◌∙◌}
 use mathlib.Core.Bool.{Bool, true, false, cond, not, ◌&&◌, ◌||◌}
-use mathlib.Core.List.{List, [], ◌∷◌}
+use mathlib.Core.List.{[], ◌∷◌}
 use lib.Dec.{eqb}
 use borrow.Author.Tests.{eqb-true}
 use Rattle.contexts.specs.declared.Context.{Context}
 use Rattle.contexts.specs.declared.Context.TheVariants.{Segwitv0, Tap}
 use Rattle.correctness.specs.declared.Base.{Base}
-use Rattle.correctness.specs.declared.Base.TheVariants.{B, K, «V», W}
+use Rattle.correctness.specs.declared.Base.TheVariants.{B, «V»}
 use Rattle.correctness.specs.declared.Input.{Input}
 use Rattle.correctness.specs.declared.Input.TheVariants.{Zero, One, Any, OneNonZero, AnyNonZero}
 use Rattle.correctness.specs.declared.Correctness.{Correctness}
 use Rattle.malleability.specs.declared.Dissat.{Dissat}
 use Rattle.malleability.specs.declared.Malleability.{Malleability}
 use Rattle.types.specs.declared.«Type».{«Type»}
-use Rattle.types.specs.declared.TypeResult.{TypeResult}
 use Rattle.correctness.specs.Letters.{is_b, is_v, is_w, base_eq, is_zero, is_one}
-use Rattle.malleability.specs.Letters.{is_unique}
 use Rattle.contexts.specs.Bools.{implies}
 use Rattle.contexts.specs.Lists.{all}
 use Rattle.correctness.specs.CorrectnessRules.{ok_if, is_bdu, same_bkv, and_input, or_b_input, or_d_input, or_i_input, and_or_input}
@@ -59,10 +59,10 @@ abbrev parts_of : «Type» → Parts
 parts_of t =
     (t.corr.base, (t.corr.input, (t.corr.dissatisfiable, (t.corr.unit, (t.mall.dissat, (t.mall.safe, t.mall.non_malleable))))))
 
-abbrev Kept : («Type» → TypeResult) → Type 0
+abbrev Kept : («Type» → Result «Type» TypeError) → Type 0
 Kept r = (t : «Type») → arises t ≡ true → arises_if_typed (r t) ≡ true
 
-cast : (r : «Type» → TypeResult) → types.every (λ p. implies (arises (of p)) (arises_if_typed (r (of p)))) ≡ true → Kept r
+cast : (r : «Type» → Result «Type» TypeError) → types.every (λ p. implies (arises (of p)) (arises_if_typed (r (of p)))) ≡ true → Kept r
 cast r h t = law-1 types (λ p. arises (of p)) (λ p. arises_if_typed (r (of p))) h (parts_of t)
 
 pub cast-alt : Kept rule.cast_alt
@@ -165,7 +165,7 @@ and_zero Any y = refl
 and_zero OneNonZero y = none_of (is_zero y) OneNonZero AnyNonZero refl refl
 and_zero AnyNonZero y = refl
 
-abbrev Kept2 : («Type» → «Type» → TypeResult) → Type 0
+abbrev Kept2 : («Type» → «Type» → Result «Type» TypeError) → Type 0
 Kept2 r = (x y : «Type») → arises x ≡ true → arises y ≡ true → arises_if_typed (r x y) ≡ true
 
 pub and-b : Kept2 rule.and_b

@@ -1,8 +1,10 @@
 -- A threshold over children that arise gives a type that arises. Assumes nothing.
+use Rattle.correctness.specs.declared.TypeError.{TypeError}
+use Rattle.std.specs.Prelude.{Result}
 use mathlib.Core.Path.{◌≡◌, refl, sym, ap, ◌∙◌}
-use mathlib.Core.Bool.{Bool, true, false, cond, not, ◌&&◌}
+use mathlib.Core.Bool.{Bool, true, false, ◌&&◌}
 use mathlib.Core.List.{List, [], ◌∷◌, map}
-use Prim.Native.Nat.{ℕ, ◌+◌, ◌-◌, ◌<◌, ◌≤◌}
+use Prim.Native.Nat.{ℕ, ◌-◌, ◌<◌, ◌≤◌}
 use native.Mathlib.Omega.{arith}
 use lib.Dec.{eqb, leb, ltb}
 use lib.ListN.{length, length-map}
@@ -13,10 +15,8 @@ use Rattle.correctness.specs.declared.Input.TheVariants.{Zero, One, Any, OneNonZ
 use Rattle.correctness.specs.declared.Correctness.{Correctness}
 use Rattle.malleability.specs.declared.Malleability.{Malleability}
 use Rattle.types.specs.declared.«Type».{«Type»}
-use Rattle.types.specs.declared.TypeResult.{TypeResult}
 use Rattle.correctness.specs.Letters.{is_zero}
 use Rattle.malleability.specs.Letters.{is_unique}
-use Rattle.contexts.specs.Bools.{implies}
 use Rattle.contexts.specs.Lists.{all, sum, one, count}
 use Rattle.correctness.specs.CorrectnessRules.{first_b, num_args, threshold_input}
 use Rattle.malleability.specs.MalleabilityRules as mall
@@ -83,7 +83,7 @@ all-0 (t ∷ ts) h ud n =
 
 -- the whole
 
-typed-if : (b : Bool) (r : TypeResult) → (b ≡ true → arises_if_typed r ≡ true) → arises_if_typed (rule.typed_if b r) ≡ true
+typed-if : (b : Bool) (r : Result «Type» TypeError) → (b ≡ true → arises_if_typed r ≡ true) → arises_if_typed (rule.typed_if b r) ≡ true
 typed-if true r f = f refl
 typed-if false r f = refl
 

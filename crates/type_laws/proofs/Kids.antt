@@ -1,11 +1,10 @@
 -- A type seen without its input but for z: what the pair and triple rules keep can be computed over these few. Assumes nothing.
-use mathlib.Core.Path.{◌≡◌, refl, ap, ◌∙◌}
-use mathlib.Core.Bool.{Bool, true, false, cond, not, ◌&&◌}
+use mathlib.Core.Path.{◌≡◌, refl, ap}
+use mathlib.Core.Bool.{Bool, true, cond, not, ◌&&◌}
 use Rattle.correctness.specs.declared.Base.{Base}
 use Rattle.correctness.specs.declared.Base.TheVariants.{B, K, «V», W}
 use Rattle.correctness.specs.declared.Input.{Input}
 use Rattle.malleability.specs.declared.Dissat.{Dissat}
-use Rattle.correctness.specs.declared.Correctness.{Correctness}
 use Rattle.malleability.specs.declared.Malleability.{Malleability}
 use Rattle.types.specs.declared.«Type».{«Type»}
 use Rattle.correctness.specs.Letters.{is_k, is_v, is_w, is_zero, is_any}
@@ -14,7 +13,7 @@ use Rattle.contexts.specs.Bools.{implies}
 use Rattle.correctness.specs.CorrectnessRules.{correctness}
 use Rattle.types.specs.Sanity.{sane_corr, sane, arises}
 use Rattle.contexts.proofs.Bools.{and_l, and_r, and_i, modus}
-use Rattle.types.proofs.Finite.{Finite, bools, bases, inputs, dissats}
+use Rattle.types.proofs.Finite.{Finite, bools, inputs, dissats}
 
 -- every pair of values, and laws of one, two and three values
 

@@ -1,13 +1,10 @@
 -- Being a subtype is reflexive, transitive and antisymmetric, over every type. Assumes nothing.
 use mathlib.Core.Path.{◌≡◌, refl, sym, ap, ◌∙◌}
-use mathlib.Core.Bool.{Bool, true, false, ◌&&◌}
+use mathlib.Core.Bool.{Bool, true, ◌&&◌}
 use Prim.Native.Nat.{ℕ}
 use lib.Dec.{eqb}
 use borrow.Author.Tests.{eqb-true}
-use Rattle.correctness.specs.declared.Base.{Base}
-use Rattle.correctness.specs.declared.Input.{Input}
 use Rattle.correctness.specs.declared.Correctness.{Correctness}
-use Rattle.malleability.specs.declared.Dissat.{Dissat}
 use Rattle.malleability.specs.declared.Malleability.{Malleability}
 use Rattle.types.specs.declared.«Type».{«Type»}
 use Rattle.correctness.specs.Letters.{base_eq}

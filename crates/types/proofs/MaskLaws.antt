@@ -12,19 +12,13 @@ use Rattle.contexts.proofs.Bools.{bool_lt}
 use Rattle.correctness.specs.Letters.{base_eq}
 use Rattle.correctness.specs.Subtype.{input_sub, corr_sub}
 use Rattle.malleability.specs.Subtype.{dissat_sub, mall_sub}
-use Rattle.types.specs.Names.{Base, B, K, «V», W, Input, Zero, One, Any, OneNonZero, AnyNonZero, Dissat, None, Unique, Unknown}
+use Rattle.types.specs.Names.{Base, Input, Zero, One, Any, OneNonZero, AnyNonZero, Dissat, None, Unique, Unknown}
 use Rattle.types.specs.Names.{Correctness, Malleability, «Type»}
 use Rattle.types.specs.Mask.{base_bits, input_bits, dissat_bits, corr_mask, mall_mask, mask, has_all}
 use Rattle.types.specs.Subtype.{type_sub}
 use Rattle.types.proofs.Finite.{Finite, bools, bases, inputs, dissats}
 
 -- ---- the bits of each part are few
-
-pub base-bits-lt : (b : Base) → base_bits b < 16
-base-bits-lt B = omega arith
-base-bits-lt K = omega arith
-base-bits-lt «V» = omega arith
-base-bits-lt W = omega arith
 
 pub input-bits-lt : (i : Input) → input_bits i < 8
 input-bits-lt Zero = omega arith

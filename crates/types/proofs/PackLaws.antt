@@ -1,13 +1,13 @@
 -- The packed number: it is below 960, it determines its type, and its order is the derived order. Assumes nothing.
+use Rattle.std.specs.Prelude.{Option, None, Some}
 use mathlib.Core.Path.{◌≡◌, refl, sym, ap, ◌∙◌}
 use mathlib.Core.Bool.{Bool, true, false}
 use Prim.Native.Nat.{ℕ, ◌+◌, ◌*◌, ◌/◌, ◌%◌, ◌<◌}
 use native.Mathlib.Nat.{mul-le-mul_right, suc-mul, add_comm, zero-add, add-mul-mod_self_right, mod-eq_of_lt, add-mul-div_right, div-eq_of_lt}
 use native.Mathlib.Omega.{arith}
 use lib.Dec.{ltb}
-use mir.Val.{bool_byte}
 use borrow.Author.Tests.{lt-ltb, le-ltb, ltb-true, ltb-false}
-use Rattle.types.specs.Names.{Correctness, Malleability, «Type», Ordering, Less, Equal, Greater, Unpacked, Is, NotAType}
+use Rattle.types.specs.Names.{Correctness, Malleability, «Type», Ordering, Less, Equal, Greater}
 use Rattle.correctness.specs.Digits.{base_rank, input_rank, pack_corr, unpack_corr}
 use Rattle.malleability.specs.Digits.{dissat_rank, unpack_mall}
 use Rattle.contexts.specs.Bools.{bool_rank}
@@ -15,37 +15,6 @@ use Rattle.contexts.proofs.Bools.{bool_lt, bool-of}
 use Rattle.correctness.proofs.Digits.{base-lt, input-lt, base-of, input-of}
 use Rattle.malleability.proofs.Digits.{dissat-lt, dissat-of}
 use Rattle.types.specs.TypeOrder.{cmp_rank, and_then, cmp_corr, cmp_mall, cmp_type, pack, unpack}
-
--- the number that the code casts a bool to
-pub bool-byte : (b : Bool) → bool_byte b ≡ bool_rank b
-bool-byte false = refl
-bool-byte true = refl
-
--- the parts of a type, as the code comes by them: numbers b, i and x for base, input and dissat, below kb, ki and kx, and bools cast to numbers
-pub record Digits (t : «Type») (kb ki kx b i x : ℕ) : Type 0 where
-  pub below-b : b < kb
-  pub below-i : i < ki
-  pub below-d : bool_byte t.corr.dissatisfiable < 2
-  pub below-u : bool_byte t.corr.unit < 2
-  pub below-x : x < kx
-  pub below-s : bool_byte t.mall.safe < 2
-  pub below-m : bool_byte t.mall.non_malleable < 2
-
-byte-lt : (b : Bool) → bool_byte b < 2
-byte-lt false = omega arith
-byte-lt true = omega arith
-
-pub digits : (t : «Type») {kb ki kx b' i' x' : ℕ} (b i x : ℕ) → b' < kb → i' < ki → x' < kx → b ≡ b' → i ≡ i' → x ≡ x' → Digits t kb ki kx b i x
-digits t b i x lb li lx hb hi hx =
-    record {
-      below-b = omega (arith, hb, lb);
-      below-i = omega (arith, hi, li);
-      below-d = byte-lt t.corr.dissatisfiable;
-      below-u = byte-lt t.corr.unit;
-      below-x = omega (arith, hx, lx);
-      below-s = byte-lt t.mall.safe;
-      below-m = byte-lt t.mall.non_malleable;
-    }
 
 -- a number of two digits orders as its first digit does and then its second
 
@@ -195,7 +164,7 @@ pub pack-lt : (t : «Type») → pack t < 960
 pack-lt t = omega (arith, by-12 t, corr-lt t.corr, mall-lt t.mall)
 
 -- the packed number stands for its type
-pub unpack-pack : (t : «Type») → unpack (pack t) ≡ Is t
+pub unpack-pack : (t : «Type») → unpack (pack t) ≡ Some t
 unpack-pack t =
     let corr : pack t / 12 ≡ pack_corr t.corr =
     ap (λ (n : ℕ). n / 12) (by-12 t) ∙ others 12 (pack_corr t.corr) (pack_mall t.mall) (mall-lt t.mall) in
@@ -203,9 +172,9 @@ unpack-pack t =
     ap (λ (n : ℕ). n % 12) (by-12 t) ∙ last 12 (pack_corr t.corr) (pack_mall t.mall) (mall-lt t.mall) in
     rw (lt-ltb (pack t) 960 (pack-lt t), corr, mall, unpack-corr t.corr, unpack-mall t.mall)
 
-held : «Type» → Unpacked → «Type»
-held t (Is u) = u
-held t NotAType = t
+held : «Type» → Option «Type» → «Type»
+held t (Some u) = u
+held t None = t
 
 pub pack-injective : (t u : «Type») → pack t ≡ pack u → t ≡ u
 unfolding held

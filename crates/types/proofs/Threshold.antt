@@ -1,16 +1,15 @@
 -- A threshold's children taken one after another come to what TypeRules says of all of them. Assumes nothing.
 use mathlib.Core.Path.{◌≡◌, refl, sym, ap, ◌∙◌}
-use mathlib.Core.Bool.{Bool, true, false, ◌&&◌, and_assoc, and-true, and-false}
+use mathlib.Core.Bool.{Bool, true, false, ◌&&◌, and_assoc, and-true}
 use mathlib.Core.List.{List, [], ◌∷◌, map}
 use Prim.Native.Nat.{ℕ, suc, ◌+◌, ◌-◌, ◌<◌, ◌≤◌}
 use native.Mathlib.Nat.{add-zero, zero-add, add_assoc}
 use native.Mathlib.Numerals.{add-one}
 use native.Mathlib.Omega.{arith}
-use lib.Dec.{leb}
-use lib.ListN.{length, take, drop, get_or, length-map, length-take}
+use lib.ListN.{length, take, drop, get_or, length-map}
 use lib.Seq.{drop-cons, length-take-le}
-use borrow.Author.Tests.{le-leb, lt-leb, lt-ltb}
-use Rattle.types.specs.Names.{Correctness, Malleability, «Type», IllTyped}
+use borrow.Author.Tests.{le-leb, lt-ltb}
+use Rattle.types.specs.Names.{Correctness, Malleability, «Type»}
 use Rattle.types.specs.declared.TypeSoFar.{TypeSoFar}
 use Rattle.correctness.specs.Letters.{is_b, is_w}
 use Rattle.malleability.specs.Letters.{is_unique}
@@ -34,9 +33,6 @@ more false n h = sym (add-zero n)
 at_most_one : (b : Bool) → one b ≤ 1
 at_most_one true = omega arith
 at_most_one false = omega arith
-
-take-le : {A : Type 0} (n : ℕ) (xs : List A) → length (take n xs) ≤ n
-take-le n xs = omega (arith, length-take n xs)
 
 first_of : {A : Type 0} (n : ℕ) (xs : List A) (d : A) → 0 < n → 0 < length xs → take n xs ≡ get_or xs 0 d ∷ take (n - 1) (drop 1 xs)
 first_of n xs d h l =
@@ -115,18 +111,6 @@ agree k t ts low mid high =
       le-leb (length (t ∷ ts)) 16 high,
       length-map ts (λ t. t.mall),
     )
-
--- where a threshold is not well-typed
-
-none : (b : Bool) → IllTyped ≡ typed_if b IllTyped
-none true = refl
-none false = refl
-
-pub none-wanted : (k n : ℕ) (ts : List «Type») → k < 1 → IllTyped ≡ threshold_of k n ts
-none-wanted k n ts h = rw (lt-leb 1 k h) (none (leb n 16))
-
-pub too_few : (k n : ℕ) (ts : List «Type») → n < k → IllTyped ≡ threshold_of k n ts
-too_few k n ts h = rw (lt-leb k (length (take n ts)) (omega (arith, take-le n ts)), and-false (leb 1 k)) (none (leb n 16))
 
 -- the loop over the children after the first
 

@@ -4,14 +4,9 @@ pub use Rattle.correctness.specs.declared.Base.TheVariants.{B, K, «V», W}
 pub use Rattle.correctness.specs.declared.Input.{Input}
 pub use Rattle.correctness.specs.declared.Input.TheVariants.{Zero, One, Any, OneNonZero, AnyNonZero}
 pub use Rattle.correctness.specs.declared.Correctness.{Correctness}
-pub use Rattle.correctness.specs.declared.CorrectnessResult.{CorrectnessResult}
 pub use Rattle.malleability.specs.declared.Dissat.{Dissat}
 pub use Rattle.malleability.specs.declared.Dissat.TheVariants.{None, Unique, Unknown}
 pub use Rattle.malleability.specs.declared.Malleability.{Malleability}
 pub use Rattle.types.specs.declared.«Type».{«Type»}
-pub use Rattle.types.specs.declared.TypeResult.{TypeResult}
-pub use Rattle.types.specs.declared.TypeResult.TheVariants.{Ok, IllTyped}
-pub use Rattle.types.specs.declared.Ordering.{Ordering}
-pub use Rattle.types.specs.declared.Ordering.TheVariants.{Less, Equal, Greater}
-pub use Rattle.types.specs.declared.Unpacked.{Unpacked}
-pub use Rattle.types.specs.declared.Unpacked.TheVariants.{Is, NotAType}
+pub use Rattle.std.specs.declared.cmp.Ordering.{Ordering}
+pub use Rattle.std.specs.declared.cmp.Ordering.TheVariants.{Less, Equal, Greater}

@@ -1,6 +1,7 @@
 -- The checks that every type of a fragment passes, from `sanity_checks` in types/correctness.rs and types/mod.rs.
-use Rattle.std.specs.Prelude.{Bool, true, not, ◌&&◌}
-use Rattle.types.specs.Names.{Correctness, «Type», TypeResult, Ok, IllTyped}
+use Rattle.correctness.specs.declared.TypeError.{TypeError}
+use Rattle.std.specs.Prelude.{Bool, true, not, ◌&&◌, Result, Ok, Err}
+use Rattle.types.specs.Names.{Correctness, «Type»}
 use Rattle.correctness.specs.Letters.{is_k, is_v, is_w, is_zero, is_non_zero, is_any}
 use Rattle.malleability.specs.Letters.{is_none, is_unique}
 use Rattle.contexts.specs.Bools.{implies}
@@ -28,6 +29,6 @@ arises t =
     && (implies (is_k t.corr.base) (not (is_zero t.corr.input))
     && implies (is_w t.corr.base) (is_any t.corr.input)))
 
-abbrev pub arises_if_typed : TypeResult → Bool
+abbrev pub arises_if_typed : Result «Type» TypeError → Bool
 arises_if_typed (Ok t) = arises t
-arises_if_typed IllTyped = true
+arises_if_typed (Err e) = true

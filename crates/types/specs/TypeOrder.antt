@@ -1,9 +1,9 @@
 -- The derived order of types, from the order of fields and variants in types/correctness.rs, malleability.rs and mod.rs, and the packed number.
-use Rattle.std.specs.Prelude.{cond, ℕ, ◌+◌, ◌*◌, ◌/◌, ◌%◌, ltb}
+use Rattle.std.specs.Prelude.{cond, ℕ, ◌+◌, ◌*◌, ◌/◌, ◌%◌, ltb, Option, None, Some}
 use Rattle.contexts.specs.Bools.{bool_rank}
 use Rattle.correctness.specs.Digits.{base_rank, input_rank, pack_corr, unpack_corr}
 use Rattle.malleability.specs.Digits.{dissat_rank, unpack_mall}
-use Rattle.types.specs.Names.{Correctness, Malleability, «Type», Ordering, Less, Equal, Greater, Unpacked, Is, NotAType}
+use Rattle.types.specs.Names.{Correctness, Malleability, «Type», Ordering, Less, Equal, Greater}
 
 -- the order: field by field, the first that differs decides
 
@@ -37,5 +37,5 @@ abbrev pub pack : «Type» → ℕ
 pack t =
     ((pack_corr t.corr * 3 + dissat_rank t.mall.dissat) * 2 + bool_rank t.mall.safe) * 2 + bool_rank t.mall.non_malleable
 
-abbrev pub unpack : ℕ → Unpacked
-unpack n = cond (ltb n 960) (Is (record { corr = unpack_corr (n / 12); mall = unpack_mall (n % 12) })) NotAType
+abbrev pub unpack : ℕ → Option «Type»
+unpack n = cond (ltb n 960) (Some (record { corr = unpack_corr (n / 12); mall = unpack_mall (n % 12) })) None

@@ -10,7 +10,7 @@ ghost use Rattle.types.specs.TypeRules.{and_b, and_v, or_b, or_d, or_c, or_i, an
 ghost use Rattle.types.specs.ThresholdSteps.{type_first, type_next, type_result};
 
 use contexts::Context;
-use correctness::{Correctness, CorrectnessResult, CorrectnessSoFar};
+use correctness::{Correctness, CorrectnessSoFar, TypeError};
 use malleability::{Malleability, MalleabilitySoFar};
 
 pub mod order;
@@ -23,28 +23,6 @@ pub struct Type {
     pub mall: Malleability,
 }
 
-// What a type rule answers.
-#[derive(Clone, Copy)]
-pub enum TypeResult {
-    Ok(Type),
-    IllTyped,
-}
-
-// How one type stands to another in the derived order.
-#[derive(Clone, Copy)]
-pub enum Ordering {
-    Less,
-    Equal,
-    Greater,
-}
-
-// What a packed number stands for.
-#[derive(Clone, Copy)]
-pub enum Unpacked {
-    Is(Type),
-    NotAType,
-}
-
 // The type of a threshold's children, as far as they are read.
 #[derive(Clone, Copy)]
 pub struct TypeSoFar {
@@ -53,13 +31,10 @@ pub struct TypeSoFar {
 }
 
 // The type whose correctness a rule answered, if it did.
-fn typed(corr: CorrectnessResult, mall: Malleability) -> TypeResult
+fn typed(corr: Result<Correctness, TypeError>, mall: Malleability) -> Result<Type, TypeError>
     ensures { result ≡ typed corr mall }
 {
-    match corr {
-        CorrectnessResult::Ok(c) => TypeResult::Ok(Type { corr: c, mall }),
-        CorrectnessResult::IllTyped => TypeResult::IllTyped,
-    }
+    Ok(Type { corr: corr?, mall })
 }
 
 impl Type {
@@ -136,77 +111,77 @@ impl Type {
     }
 
     // The type of a:X.
-    pub fn cast_alt(self) -> TypeResult
+    pub fn cast_alt(self) -> Result<Type, TypeError>
         ensures { result ≡ cast_alt self }
     {
         typed(self.corr.cast_alt(), self.mall.cast_alt())
     }
 
     // The type of s:X.
-    pub fn cast_swap(self) -> TypeResult
+    pub fn cast_swap(self) -> Result<Type, TypeError>
         ensures { result ≡ cast_swap self }
     {
         typed(self.corr.cast_swap(), self.mall.cast_swap())
     }
 
     // The type of c:X.
-    pub fn cast_check(self) -> TypeResult
+    pub fn cast_check(self) -> Result<Type, TypeError>
         ensures { result ≡ cast_check self }
     {
         typed(self.corr.cast_check(), self.mall.cast_check())
     }
 
     // The type of d:X in a context.
-    pub fn cast_dupif(self, context: Context) -> TypeResult
+    pub fn cast_dupif(self, context: Context) -> Result<Type, TypeError>
         ensures { result ≡ cast_dupif context self }
     {
         typed(self.corr.cast_dupif(context), self.mall.cast_dupif())
     }
 
     // The type of v:X.
-    pub fn cast_verify(self) -> TypeResult
+    pub fn cast_verify(self) -> Result<Type, TypeError>
         ensures { result ≡ cast_verify self }
     {
         typed(self.corr.cast_verify(), self.mall.cast_verify())
     }
 
     // The type of j:X.
-    pub fn cast_nonzero(self) -> TypeResult
+    pub fn cast_nonzero(self) -> Result<Type, TypeError>
         ensures { result ≡ cast_nonzero self }
     {
         typed(self.corr.cast_nonzero(), self.mall.cast_nonzero())
     }
 
     // The type of n:X.
-    pub fn cast_zeronotequal(self) -> TypeResult
+    pub fn cast_zeronotequal(self) -> Result<Type, TypeError>
         ensures { result ≡ cast_zeronotequal self }
     {
         typed(self.corr.cast_zeronotequal(), self.mall.cast_zeronotequal())
     }
 
     // The type of t:X.
-    pub fn cast_true(self) -> TypeResult
+    pub fn cast_true(self) -> Result<Type, TypeError>
         ensures { result ≡ cast_true self }
     {
         typed(self.corr.cast_true(), self.mall.cast_true())
     }
 
     // The type of u:X.
-    pub fn cast_unlikely(self) -> TypeResult
+    pub fn cast_unlikely(self) -> Result<Type, TypeError>
         ensures { result ≡ cast_unlikely self }
     {
         typed(self.corr.cast_or_i_false(), self.mall.cast_or_i_false())
     }
 
     // The type of l:X.
-    pub fn cast_likely(self) -> TypeResult
+    pub fn cast_likely(self) -> Result<Type, TypeError>
         ensures { result ≡ cast_likely self }
     {
         typed(self.corr.cast_or_i_false(), self.mall.cast_or_i_false())
     }
 
     // The type of and_b.
-    pub fn and_b(left: Self, right: Self) -> TypeResult
+    pub fn and_b(left: Self, right: Self) -> Result<Type, TypeError>
         ensures { result ≡ and_b left right }
     {
         typed(
@@ -216,7 +191,7 @@ impl Type {
     }
 
     // The type of and_v.
-    pub fn and_v(left: Self, right: Self) -> TypeResult
+    pub fn and_v(left: Self, right: Self) -> Result<Type, TypeError>
         ensures { result ≡ and_v left right }
     {
         typed(
@@ -226,7 +201,7 @@ impl Type {
     }
 
     // The type of or_b.
-    pub fn or_b(left: Self, right: Self) -> TypeResult
+    pub fn or_b(left: Self, right: Self) -> Result<Type, TypeError>
         ensures { result ≡ or_b left right }
     {
         typed(
@@ -236,7 +211,7 @@ impl Type {
     }
 
     // The type of or_d.
-    pub fn or_d(left: Self, right: Self) -> TypeResult
+    pub fn or_d(left: Self, right: Self) -> Result<Type, TypeError>
         ensures { result ≡ or_d left right }
     {
         typed(
@@ -246,7 +221,7 @@ impl Type {
     }
 
     // The type of or_c.
-    pub fn or_c(left: Self, right: Self) -> TypeResult
+    pub fn or_c(left: Self, right: Self) -> Result<Type, TypeError>
         ensures { result ≡ or_c left right }
     {
         typed(
@@ -256,7 +231,7 @@ impl Type {
     }
 
     // The type of or_i.
-    pub fn or_i(left: Self, right: Self) -> TypeResult
+    pub fn or_i(left: Self, right: Self) -> Result<Type, TypeError>
         ensures { result ≡ or_i left right }
     {
         typed(
@@ -266,7 +241,7 @@ impl Type {
     }
 
     // The type of andor.
-    pub fn and_or(a: Self, b: Self, c: Self) -> TypeResult
+    pub fn and_or(a: Self, b: Self, c: Self) -> Result<Type, TypeError>
         ensures { result ≡ and_or a b c }
     {
         typed(
@@ -276,25 +251,15 @@ impl Type {
     }
 
     // The type of thresh, of which k among the first n of subs are to be satisfied.
-    pub fn threshold(k: usize, n: usize, subs: [Type; 16]) -> TypeResult
+    pub fn threshold(k: usize, n: usize, subs: [Type; 16]) -> Result<Type, TypeError>
         ensures { result ≡ threshold_of k n subs }
     {
-        if k < 1 {
-            return TypeResult::IllTyped;
+        if k < 1 || n < k || 16 < n {
+            return Err(TypeError::IllTyped);
         }
-        if n < k {
-            return TypeResult::IllTyped;
-        }
-        if 16 < n {
-            return TypeResult::IllTyped;
-        }
-        let first = subs[0];
-        let mut children = TypeSoFar::first(first);
-        let mut i: usize = 1;
-        while i < n {
-            let sub = subs[i];
-            children = children.next(sub);
-            i += 1;
+        let mut children = TypeSoFar::first(subs[0]);
+        for i in 1..n {
+            children = children.next(subs[i]);
         }
         children.threshold(n, n - k)
     }
@@ -320,7 +285,7 @@ impl TypeSoFar {
     }
 
     // The type of a threshold over these n children, of which all but others are to be satisfied.
-    fn threshold(self, n: usize, others: usize) -> TypeResult
+    fn threshold(self, n: usize, others: usize) -> Result<Type, TypeError>
         ensures { result ≡ type_result self n others }
     {
         typed(self.corr.threshold(), self.mall.threshold(n, others))

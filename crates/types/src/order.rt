@@ -2,9 +2,10 @@
 ghost use Rattle.std.specs.Prelude.{◌≡◌};
 ghost use Rattle.types.specs.TypeOrder.{cmp_rank, cmp_type, pack, unpack};
 
-use crate::{Ordering, Type, Unpacked};
+use crate::Type;
 use correctness::Correctness;
 use malleability::Malleability;
+use std::cmp::Ordering;
 
 // How many types there are.
 const TYPES: u32 = 960;
@@ -13,15 +14,7 @@ const TYPES: u32 = 960;
 fn cmp_rank(a: u32, b: u32) -> Ordering
     ensures { result ≡ cmp_rank a b }
 {
-    if a < b {
-        Ordering::Less
-    } else {
-        if b < a {
-            Ordering::Greater
-        } else {
-            Ordering::Equal
-        }
-    }
+    a.cmp(&b)
 }
 
 impl Type {
@@ -29,31 +22,26 @@ impl Type {
     pub fn pack(self) -> u32
         ensures { result ≡ pack self }
     {
-        let corr = self.corr;
-        let mall = self.mall;
-        let base = corr.base;
-        let input = corr.input;
-        let dissat = mall.dissat;
-        let b = base.rank() as u32;
-        let i = input.rank() as u32;
-        let d = corr.dissatisfiable as u32;
-        let u = corr.unit as u32;
-        let x = dissat.rank() as u32;
-        let s = mall.safe as u32;
-        let m = mall.non_malleable as u32;
+        let b = self.corr.base.rank() as u32;
+        let i = self.corr.input.rank() as u32;
+        let d = self.corr.dissatisfiable as u32;
+        let u = self.corr.unit as u32;
+        let x = self.mall.dissat.rank() as u32;
+        let s = self.mall.safe as u32;
+        let m = self.mall.non_malleable as u32;
         (((((b * 5 + i) * 2 + d) * 2 + u) * 3 + x) * 2 + s) * 2 + m
     }
 
     // The type that n packs, if there is one.
-    pub fn unpack(n: u32) -> Unpacked
+    pub fn unpack(n: u32) -> Option<Type>
         ensures { result ≡ unpack n }
     {
         if n < TYPES {
             let corr = Correctness::unpack(n / 12);
             let mall = Malleability::unpack(n % 12);
-            Unpacked::Is(Type { corr, mall })
+            Some(Type { corr, mall })
         } else {
-            Unpacked::NotAType
+            None
         }
     }
 

@@ -56,18 +56,13 @@ impl Type {
     pub fn mask(self) -> u32
         ensures { result ≡ mask self }
     {
-        let corr = self.corr;
-        let mall = self.mall;
-        let base = corr.base;
-        let input = corr.input;
-        let dissat = mall.dissat;
-        let b = base_bits(base);
-        let i = input_bits(input);
-        let d = corr.dissatisfiable as u32;
-        let u = corr.unit as u32;
-        let x = dissat_bits(dissat);
-        let s = mall.safe as u32;
-        let m = mall.non_malleable as u32;
+        let b = base_bits(self.corr.base);
+        let i = input_bits(self.corr.input);
+        let d = self.corr.dissatisfiable as u32;
+        let u = self.corr.unit as u32;
+        let x = dissat_bits(self.mall.dissat);
+        let s = self.mall.safe as u32;
+        let m = self.mall.non_malleable as u32;
         ((b * 8 + i) * 4 + (d * 2 + u)) * 16 + (x * 4 + (s * 2 + m))
     }
 

@@ -2,12 +2,11 @@
 -- Of such a tree every fragment is valid exactly where False may stand in it. Assumes nothing.
 use mathlib.Core.Bool.{Bool, true, false, cond, not, ◌&&◌, ◌||◌, false≢true}
 use mathlib.Core.List.{List, [], ◌∷◌}
-use mathlib.Core.Option.{Option, none, some}
 use mathlib.Core.Path.{◌≡◌, refl, sym, ap, subst, ◌∙◌}
 use Prim.Native.Nat.{ℕ, ◌+◌}
 use borrow.Author.Tests.{leb-true}
 use native.Mathlib.Omega.{arith}
-use lib.Dec.{leb, eqb}
+use lib.Dec.{leb}
 use lib.ListN.{length}
 use Rattle.costs.specs.declared.Price.{Price}
 use Rattle.contexts.specs.declared.Context.{Context}
@@ -25,14 +24,14 @@ use Rattle.trees.specs.Tree.{tree_of}
 use Rattle.walk.specs.Heads.{head_of, children_in}
 use Rattle.walk.specs.Folds.{Each, none, both, every}
 use Rattle.walk.proofs.FoldLaws.{by-children}
-use Rattle.writing.specs.WellFormed.{AllBelow, WellFormed}
+use Rattle.writing.specs.WellFormed.{WellFormed}
 use Rattle.writing.specs.Writing.{size, bytes_of_tree}
 use Rattle.writing.proofs.ReadBack.{read_back}
 use Rattle.definition.specs.Candidates.{Candidate}
 use Rattle.definition.specs.Tables.{cost_at}
 use Rattle.definition.specs.Refusals.{State, state, Res, done, refused, OutputTooSmall, BadWork}
 use Rattle.definition.specs.Compile.{max_records, root_probs, best_compilation, compiled, refused_with, outcome, compile_policy}
-use Rattle.definition.specs.Compile.{compile_read, compile_in, context_of, compile}
+use Rattle.definition.specs.Compile.{compile_read, compile_in, compile}
 use Rattle.definition_laws.specs.FormedPolicy.{FormedPolicy}
 use Rattle.definition_laws.specs.Laws as laws
 use Rattle.definition_laws.specs.Laws.{figures_of}
@@ -41,7 +40,7 @@ use Rattle.definition_laws.proofs.Compiling.{RootWell, best_compilation-keeps, s
 use Rattle.tree_figures.specs.LocallyValid.{everywhere, valid, all_valid}
 use Rattle.tree_figures.proofs.Everywhere.{splits}
 use Rattle.valid_laws.specs.CompiledValid.{is_false, valid_or_false, WritesValid, CompileValid, false_allowed, falses_allowed}
-use Rattle.valid_laws.proofs.Searching.{Gives, refuses, gives, root-keeps, start}
+use Rattle.valid_laws.proofs.Searching.{Gives, gives, root-keeps, start}
 use Rattle.valid_laws.proofs.Making.{Offer, Entry, validity-closed}
 
 -- ---- what is written

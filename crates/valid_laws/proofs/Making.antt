@@ -1,7 +1,10 @@
 -- Local validity is a property of entries (Searching.antt): a candidate has the figures of its tree, and once its own have passed the test every
 -- fragment of it is valid or False. Assumes nothing.
+use Rattle.types.specs.declared.«Type».{«Type»}
+use Rattle.correctness.specs.declared.TypeError.{TypeError}
+use Rattle.std.specs.Prelude.{Option, None, Some, Result, Ok, Err}
 use mathlib.Core.Bool.{Bool, true, false, ◌&&◌, ◌||◌, false≢true}
-use mathlib.Core.List.{List, [], ◌∷◌, map}
+use mathlib.Core.List.{List, ◌∷◌, map}
 use mathlib.Core.Path.{◌≡◌, refl, sym, ap, ◌∙◌}
 use Prim.Native.Nat.{ℕ}
 use lib.Dec.{leb, eqb}
@@ -9,24 +12,20 @@ use lib.ListN.{length}
 use Rattle.contexts.specs.declared.Context.{Context}
 use Rattle.contexts.specs.declared.Context.TheVariants.{Segwitv0, Tap}
 use Rattle.contexts.specs.Leaves.{LockKind, After, Older, HashKind, Sha256, Hash256, Ripemd160, Hash160}
-use Rattle.types.specs.declared.TypeResult.{TypeResult}
-use Rattle.types.specs.declared.TypeResult.TheVariants.{Ok, IllTyped}
 use Rattle.types.specs.TypeRules as type
 use Rattle.figures.specs.declared.ExtData.{ExtData}
 use Rattle.figures.specs.Rules as ext
 use Rattle.figures.specs.Validity.{check_local_validity, from_ast}
 use Rattle.thresholds.specs.Threshold.{threshold}
 use Rattle.costs.specs.declared.Cost.{Cost}
-use Rattle.costs.specs.declared.Costed.{Costed}
-use Rattle.costs.specs.declared.Costed.TheVariants as Costed
 use Rattle.costs.specs.Rules as cost
-use Rattle.trees.specs.Fragment.{Fragment, Fragments, end, ◌▹◌, False, True, PkK, PkH, Lock, Hash}
+use Rattle.trees.specs.Fragment.{Fragment, False, True, PkK, PkH, Lock, Hash}
 use Rattle.trees.specs.Fragment.{Alt, Swap, Check, DupIf, Verify, NonZero, ZeroNotEqual}
 use Rattle.trees.specs.Fragment.{AndB, AndV, OrB, OrD, OrC, OrI, AndOr, Thresh, Multi, MultiA}
 use Rattle.trees.specs.Height.{max_height}
 use Rattle.walk.specs.Heads.{head_of}
 use Rattle.definition.specs.Candidates.{Candidate, kind_of, typed_as, Made, made_as, if_valid, fragments, thresh_of}
-use Rattle.definition.specs.Candidates.{false', true', pk_k, pk_h, lock, hash, multi, and_b, and_v, or_b, or_d, or_c, or_i, and_or, all_casts}
+use Rattle.definition.specs.Candidates.{false', true', pk_k, pk_h, lock, hash, multi, all_casts}
 use Rattle.definition.specs.Insertion.{worthwhile, height}
 use Rattle.definition_laws.specs.Laws.{figures_of, figures_of_all, All, nobody, ◌and◌, IfSome, none_is, some_is, IfMade, passed_is, missing_is, made_is}
 use Rattle.tree_figures.specs.LocallyValid.{everywhere, everywhere_in, valid}
@@ -118,16 +117,16 @@ module _ (c : Context) where
   own : (f : Fragment) → valid c f ≡ true → valid_or_false c f ≡ true
   own f v = or-second (is_false f) (valid c f) v
 
-  typed-as : (r : TypeResult) (f : Fragment) (e : ExtData) (k : Cost) → e ≡ figures_of c f → (valid c f ≡ true → Whole f)
+  typed-as : (r : Result «Type» TypeError) (f : Fragment) (e : ExtData) (k : Cost) → e ≡ figures_of c f → (valid c f ≡ true → Whole f)
       → IfSome Offer (typed_as r f e k)
   typed-as (Ok t) f e k p q = some_is (record { figured = p; whole = q })
-  typed-as IllTyped f e k p q = none_is
+  typed-as (Err TypeError.IllTyped) f e k p q = none_is
 
-  made-as : (r : TypeResult) (f : Fragment) (e : ExtData) (k : Costed) → e ≡ figures_of c f → (valid c f ≡ true → Whole f)
+  made-as : (r : Result «Type» TypeError) (f : Fragment) (e : ExtData) (k : Option Cost) → e ≡ figures_of c f → (valid c f ≡ true → Whole f)
       → IfMade Offer (made_as r f e k)
-  made-as (Ok t) f e (Costed.Cost k) p q = made_is (record { figured = p; whole = q })
-  made-as (Ok t) f e Costed.Missing p q = missing_is
-  made-as IllTyped f e k p q = passed_is
+  made-as (Ok t) f e (Some k) p q = made_is (record { figured = p; whole = q })
+  made-as (Ok t) f e None p q = missing_is
+  made-as (Err TypeError.IllTyped) f e k p q = passed_is
 
   figures₂ : {d e d' e' : ExtData} (rule : ExtData → ExtData → ExtData) → d ≡ d' → e ≡ e' → rule d e ≡ rule d' e'
   figures₂ rule p q = cc
@@ -213,7 +212,7 @@ module _ (c : Context) where
       and nobody
 
   module _ (l r : Candidate) (g : Entry l) (h : Entry r) where
-    pair_of : (t : TypeResult) (f : Fragment) (rule : ExtData → ExtData → ExtData) (k : Costed)
+    pair_of : (t : Result «Type» TypeError) (f : Fragment) (rule : ExtData → ExtData → ExtData) (k : Option Cost)
         → figures_of c f ≡ rule (figures_of c l.tree) (figures_of c r.tree)
         → everywhere (valid_or_false c) f ≡ valid_or_false c f && (everywhere (valid_or_false c) l.tree && everywhere (valid_or_false c) r.tree)
         → IfMade Offer (made_as t f (rule l.ext r.ext) k)
@@ -221,7 +220,7 @@ module _ (c : Context) where
         made-as t f (rule l.ext r.ext) k (figures₂ rule g.figured h.figured ∙ sym e)
         (λ v. w ∙ and_intro (own f v) (and_intro g.whole h.whole))
 
-  triple-of : (x y z : Candidate) → Entry x → Entry y → Entry z → (t : TypeResult) (k : Costed)
+  triple-of : (x y z : Candidate) → Entry x → Entry y → Entry z → (t : Result «Type» TypeError) (k : Option Cost)
       → IfMade Offer (made_as t (AndOr x.tree y.tree z.tree) (ext.and_or x.ext y.ext z.ext) k)
   unfolding figures_of everywhere
   triple-of x y z g h i t k =

@@ -2,7 +2,7 @@
 -- entry of every table, remembered ones included: by induction on the policy. Assumes nothing.
 use mathlib.Core.Bool.{Bool, true, false, cond, not, ◌&&◌, false≢true}
 use mathlib.Core.List.{List, [], ◌∷◌, ◌++◌}
-use mathlib.Core.Option.{Option, none, some}
+use Rattle.std.specs.Prelude.{Option, None, Some}
 use mathlib.Core.Path.{◌≡◌, refl}
 use Prim.Native.Nat.{ℕ, zero, suc}
 use lib.Dec.{leb, eqb}
@@ -11,26 +11,23 @@ use lib.Ieee.{Float}
 use Rattle.contexts.specs.declared.Context.{Context}
 use Rattle.contexts.specs.Leaves.{LockKind, HashKind}
 use Rattle.correctness.specs.declared.Base.TheVariants.{B, W}
-use Rattle.costs.specs.declared.DissatProb.{DissatProb}
-use Rattle.costs.specs.declared.DissatProb.TheVariants as Prob
 use Rattle.costs.specs.declared.Price.{Price}
-use Rattle.costs.specs.declared.Price.TheVariants as Price
 use Rattle.costs.specs.Arithmetic.{0·, 1·}
 use Rattle.costs.specs.Weights.{weights}
 use Rattle.policies.specs.Policy.{Policy, Policies, end, ◌▹◌, Unsatisfiable, Trivial, Key, Lock, Hash, And, Or, Thresh}
 use Rattle.definition.specs.Candidates.{Candidate, Cast, all_casts, Made, Pair, and_b, and_v, or_b, or_d, or_c, or_i, and_or, thresh_of}
 use Rattle.definition.specs.Candidates.{false', true', pk_k, pk_h, lock, hash, multi}
-use Rattle.definition.specs.Tables.{Probs, Table, cost_at, enter}
+use Rattle.definition.specs.Tables.{Probs, Table, cost_at}
 use Rattle.definition.specs.Refusals.{Stored, State, state, Res, done, refused, M, then, ◌>>=◌, pure, refuse, accept, store, lookup, same_probs}
 use Rattle.definition.specs.Refusals.{NotACost, LimitsExceeded, TableFull, FuelSpent, NodesFull, CacheFull, max_entries, max_pops, max_accepted, max_tables}
 use Rattle.definition.specs.SamePolicy.{same}
 use Rattle.definition.specs.Insertion.{if_priced, any, filter, worthwhile, beats, Offered, insert, Queued, queued, offer, cast_all, closure, insert_closure}
 use Rattle.definition.specs.Insertion as insertion
 use Rattle.definition.specs.Search.{Again, alone, redo, for_each, inserted_if_typed, casts_of, wrapped, wrapped_if_made, binary, ternary}
-use Rattle.definition.specs.Search.{cheapest, chosen, is_base_b, suits_thresh, Searcher, plain, conjunction, search_of, kept, found_or}
+use Rattle.definition.specs.Search.{chosen, is_base_b, suits_thresh, Searcher, plain, conjunction, search_of, kept, found_or}
 use Rattle.definition.specs.Search.{remembering, Body, without, again_at, searching, leaves, and_body, and_ors, Four, four_of, or_body}
-use Rattle.definition.specs.Search.{Best, best_of, bests, nth, others_as_w, most_gaining, arranged, keys_of, multi_of, and_searcher, fold_ands}
-use Rattle.definition.specs.Search.{folded_or, thresh_body, searcher, searchers, search}
+use Rattle.definition.specs.Search.{Best, best_of, bests, nth, others_as_w, arranged, keys_of, multi_of, and_searcher, fold_ands}
+use Rattle.definition.specs.Search.{folded_or, thresh_body, searcher, searchers}
 use Rattle.definition.specs.Compile.{root_probs, best_compilation}
 use Rattle.definition.specs.Refusals.{TopLevelNonSafe}
 use Rattle.definition_laws.specs.Laws.{All, nobody, ◌and◌, IfSome, none_is, some_is, IfMade, passed_is, missing_is, made_is}
@@ -245,7 +242,7 @@ module _ (c : Context) (Offer Entry : Candidate → Type 0) (closed : Closed c O
   lookup-is q p nobody = none_is
   lookup-is q p (◌and◌ {x = t} {xs = ts} h hs) = by-test (same q t.policy && same_probs p t.at) (lookup-is q p hs)
     where
-      by-test : (b : Bool) → IfSome (All Entry) (lookup q p ts) → IfSome (All Entry) (cond b (some t.table) (lookup q p ts))
+      by-test : (b : Bool) → IfSome (All Entry) (lookup q p ts) → IfSome (All Entry) (cond b (Some t.table) (lookup q p ts))
       by-test true r = some_is h
       by-test false r = r
 
@@ -268,9 +265,9 @@ module _ (c : Context) (Offer Entry : Candidate → Type 0) (closed : Closed c O
   abbrev BodyIs : Body → Type 0
   BodyIs body = (p : Probs) (g : Again) → AgainIs g → Keeps (All Entry) (body p g)
 
-  again-is : {body : Body} (q : Policy) (p : Probs) (d : DissatProb) → BodyIs body → AgainIs (again_at q body p d)
-  again-is q p Prob.None h = alone_is
-  again-is q p (Prob.Some d) h = redo_is (remembering-keeps q (without p) (h (without p) alone alone_is))
+  again-is : {body : Body} (q : Policy) (p : Probs) (d : Option Float) → BodyIs body → AgainIs (again_at q body p d)
+  again-is q p None h = alone_is
+  again-is q p (Some d) h = redo_is (remembering-keeps q (without p) (h (without p) alone alone_is))
 
   searching-keeps : (q : Policy) {body : Body} → BodyIs body → (p : Probs) → Keeps (All Entry) (searching q body p)
   unfolding searching
@@ -397,8 +394,8 @@ module _ (c : Context) (Offer Entry : Candidate → Type 0) (closed : Closed c O
 
   multi_of-keeps : (p : Probs) {g : Again} {t : Table} (k : ℕ) (keys : Option (List ℕ)) → AgainIs g → All Entry t →
       Keeps (All Entry) (multi_of c p g k keys t)
-  multi_of-keeps p k none n h = pure-keeps h
-  multi_of-keeps p k (some keys) n h = wrapped-keeps p n (closed.a-multi k keys) h
+  multi_of-keeps p k None n h = pure-keeps h
+  multi_of-keeps p k (Some keys) n h = wrapped-keeps p n (closed.a-multi k keys) h
 
   and_searcher-is : {l r : Searcher} → SearcherIs l → SearcherIs r → SearcherIs (and_searcher c l r)
   and_searcher-is lh rh = conjunction_is (searching-keeps _ (and_body-is lh rh)) lh rh

@@ -1,7 +1,6 @@
 -- Every fragment of the tree that compile writes is locally valid in its context (`tree_figures`, specs/LocallyValid.antt), but for False. What
 -- enters a table has passed that test; only False (l:X, u:X, and_n) and True (t:X) are put beside an entry untested, and True is valid by itself.
-use Rattle.std.specs.Prelude.{ℕ, Bool, true, not, ◌||◌, List, ◌≡◌, eqb}
-use Rattle.std.proofs.Math.Option.{some}
+use Rattle.std.specs.Prelude.{ℕ, Bool, true, not, ◌||◌, List, ◌≡◌, eqb, Some}
 use Rattle.contexts.specs.declared.Context.{Context}
 use Rattle.contexts.specs.declared.Context.TheVariants.{Segwitv0, Tap}
 use Rattle.costs.specs.declared.Price.{Price}
@@ -28,7 +27,7 @@ pub record WritesValid (c : Context) (bytes : List ℕ) : Type 0 where
 
 abbrev pub CompileValid : Type 0
 CompileValid =
-    (context : ℕ) (c : Context) (work_fits : Bool) (policy : List ℕ) (room : ℕ) (bytes : List ℕ) (cost : Price) (nodes : ℕ) → context_of context ≡ some c
+    (context : ℕ) (c : Context) (work_fits : Bool) (policy : List ℕ) (room : ℕ) (bytes : List ℕ) (cost : Price) (nodes : ℕ) → context_of context ≡ Some c
     → AllBelow 256 policy → compile context work_fits policy room ≡ compiled bytes cost nodes → WritesValid c bytes
 
 -- ---- where False is the exception: in context 0, where it is not valid by itself

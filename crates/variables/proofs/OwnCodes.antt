@@ -1,7 +1,7 @@
 -- The variables that stand in a record, read from its bytes. Assumes nothing.
 use Prim.Native.Nat.{ℕ, zero, suc, ◌+◌, ◌*◌, ◌≤◌, ◌<◌}
 use mathlib.Core.List.{List, [], ◌∷◌, ◌++◌, map, append_assoc}
-use mathlib.Core.Option.{some}
+use Rattle.std.specs.Prelude.{Some}
 use mathlib.Core.Path.{◌≡◌, refl, sym, ap, subst, ◌∙◌}
 use native.Mathlib.Nat.{mul-zero, mul-suc}
 use native.Mathlib.Omega.{arith}
@@ -123,11 +123,11 @@ keys-done {bytes} {j} {n} {list} on l =
 -- ---- by the bytes
 
 module _ {bytes : List ℕ} (fit : Fits bytes) {parts : Parts} {kind : ℕ} (p : parts ≡ parts_of (fragment_payload bytes)) (k : kind ≡ kind_of bytes) where
-  parts_are : parts ≡ parts_of (some fit.payload)
+  parts_are : parts ≡ parts_of (Some fit.payload)
   parts_are = p ∙ ap parts_of fit.fits
 
-  head-is : head_in bytes ≡ head_with kind (some fit.payload)
-  head-is = ap (head_with (kind_of bytes)) fit.fits ∙ ap (λ (n : ℕ). head_with n (some fit.payload)) (sym k)
+  head-is : head_in bytes ≡ head_with kind (Some fit.payload)
+  head-is = ap (head_with (kind_of bytes)) fit.fits ∙ ap (λ (n : ℕ). head_with n (Some fit.payload)) (sym k)
 
   pub own-low : kind < 34 → {r : Own} → (r.n ≡ 0) × (length r.list ≡ 16) → OwnIs bytes r
   own-low h {r} z =
@@ -168,7 +168,7 @@ module _ {bytes : List ℕ} (fit : Fits bytes) {parts : Parts} {kind : ℕ} (p :
     pub few-keys : parts.count ≤ 16
     few-keys =
         let is = shapes-in 57 58 refl (kind_of bytes) (omega (arith, k)) (omega (arith, k, top)) in
-        let b = Laws.keys-bounds bytes (sym (of-fragment bytes (fragment-record bytes fit.fits).0 is) ∙ fit.fits ∙ ap some keys-are) in
+        let b = Laws.keys-bounds bytes (sym (of-fragment bytes (fragment-record bytes fit.fits).0 is) ∙ fit.fits ∙ ap Some keys-are) in
         let n : parts.count ≡ count_of (keys (k_in bytes) (keys_in bytes)) = ap (λ (x : Parts). x.count) parts_are ∙ ap count_of keys-are in
         omega (arith, n, b.2)
 

@@ -1,21 +1,22 @@
 -- The row of variables met so far, as one more is met. Assumes nothing.
-use Prim.Native.Nat.{ℕ, suc, ◌+◌, ◌≤◌, ◌<◌}
-use mathlib.Core.Bool.{Bool, true, false, ◌||◌}
+use Prim.Native.Nat.{ℕ, ◌+◌}
+use mathlib.Core.Bool.{Bool, true, false, ◌&&◌, ◌||◌}
 use mathlib.Core.List.{List, [], ◌∷◌, ◌++◌, map}
 use mathlib.Core.Path.{◌≡◌, refl, sym, ap, ◌∙◌}
 use native.Mathlib.Omega.{arith}
 use native.Mathlib.Numerals.{add-one}
 use borrow.Author.Tests.{eqb-true, eqb-false, eq-eqb, ne_eqb}
 use lib.Dec.{eqb}
-use lib.ListN.{length, take, set, length-append, length-map, drop, get_or, drop_of_length-le, length-set}
-use lib.Seq.{take-suc-set, length-take-le, drop-cons, get_or-take}
+use lib.ListN.{length, take, set, length-append, length-map, length-set}
+use lib.Seq.{take-suc-set, length-take-le}
+use Rattle.std.specs.List.{list_any}
 use Rattle.policies.specs.Policy.{Policy}
 use Rattle.trees.specs.Fragment.{Fragment}
 use Rattle.meaning.specs.Meaning.{Variable}
 use Rattle.variables.specs.declared.Var.{Var}
 use Rattle.variables.specs.declared.Vars.{Vars}
 use Rattle.variables.specs.Variables.{member, policy_variables, tree_variables, FewVariables}
-use Rattle.variables.specs.Gathering.{code, code_of, same_code, has_code, row_of, Roomy, add_code, none, Gathered, within, beyond, Found}
+use Rattle.variables.specs.Gathering.{code_of, has_code, row_of, Roomy, add_code, none, Gathered, within, beyond, Found}
 use Rattle.variables.proofs.Members.{or_left, member-append, member-again, has-member, distinct_snoc, no-shorter}
 
 map_snoc : (vs : List Variable) (v : Variable) → map code_of (vs ++ (v ∷ [])) ≡ map code_of vs ++ (code_of v ∷ [])
@@ -86,43 +87,17 @@ few-found {t} room x =
 
 -- ---- the code: whether a variable was met
 
-pub record HasOn (x : Var) (list : List Var) (n i : ℕ) : Type 0 where
-  pub upto : i ≤ n
-  pub still : has_code x (drop i (take n list)) ≡ has_code x (take n list)
+eqb-swap : (a b : ℕ) → eqb a b ≡ eqb b a
+eqb-swap a b = by-test (eqb b a) refl
+  where
+    by-test : (t : Bool) → eqb b a ≡ t → eqb a b ≡ t
+    by-test true e = eq-eqb a b (sym (eqb-true b a e))
+    by-test false e = ne_eqb a b (λ s. eqb-false b a e (sym s))
 
-pub has-begin : (x : Var) (list : List Var) (n : ℕ) → HasOn x list n 0
-has-begin x list n = record { upto = omega arith; still = refl }
-
-module _ {x : Var} {list : List Var} {n i : ℕ} (on : HasOn x list n i) (few : n ≤ length list) where
-  size : length (take n list) ≡ n
-  size = length-take-le n list few
-
-  split : i < n → drop i (take n list) ≡ get_or list i (code 0 0) ∷ drop (suc i) (take n list)
-  split l =
-      drop-cons (take n list) i (code 0 0) (omega (arith, size))
-      ∙ ap (λ (y : Var). y ∷ drop (suc i) (take n list)) (get_or-take n list i (code 0 0) l)
-
-  pub has-hit : i < n → {b : Bool} → b ≡ same_code x (get_or list i (code 0 0)) → b ≡ true → true ≡ has_code x (take n list)
-  unfolding has_code
-  has-hit l e t =
-      let same : same_code x (get_or list i (code 0 0)) ≡ true = sym e ∙ t in
-      sym (ap (has_code x) (split l) ∙ or_left _ _ same) ∙ on.still
-
-  pub has_more : i < n → {b : Bool} → b ≡ same_code x (get_or list i (code 0 0)) → b ≡ false → HasOn x list n (i + 1)
-  unfolding has_code
-  has_more l e t =
-      let other : same_code x (get_or list i (code 0 0)) ≡ false = sym e ∙ t in
-      record {
-        upto = omega arith;
-        still = ap (λ (m : ℕ). has_code x (drop m (take n list))) (add-one i)
-            ∙ sym (ap (has_code x) (split l) ∙ ap (λ (b : Bool). b || has_code x (drop (suc i) (take n list))) other) ∙ on.still;
-      }
-
-  pub has-none : n ≤ i → false ≡ has_code x (take n list)
-  unfolding has_code
-  has-none l =
-      let empty : drop i (take n list) ≡ [] = drop_of_length-le (take n list) {i = i} (omega (arith, size)) in
-      sym (ap (has_code x) empty) ∙ on.still
+pub any-has : (x : Var) (ys : List Var) → list_any (λ (y : Var). eqb y.class x.class && eqb y.number x.number) ys ≡ has_code x ys
+unfolding has_code
+any-has x [] = refl
+any-has x (y ∷ ys) = rw (eqb-swap y.class x.class, eqb-swap y.number x.number, any-has x ys)
 
 -- ---- the code: one more
 

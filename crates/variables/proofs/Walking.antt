@@ -1,7 +1,7 @@
 -- A walk over the records of a tree: `at` is where record i begins. Assumes nothing.
 use Prim.Native.Nat.{ℕ, ◌+◌, ◌-◌, ◌≤◌, ◌<◌}
 use mathlib.Core.List.{List}
-use mathlib.Core.Option.{some}
+use Rattle.std.specs.Prelude.{Some}
 use mathlib.Core.Path.{◌≡◌, sym, ap, subst, ◌∙◌}
 use native.Mathlib.Omega.{arith}
 use lib.ListN.{length, take, drop}
@@ -30,8 +30,8 @@ module _ {tree : List ℕ} {at i : ℕ} (on : On tree at i) {f : Fragment} (r : 
     pub its-row : TreeRecord tree i
     its-row = r.row i (some_left h)
 
-    whole : record_length (drop at tree) ≡ some its-row.len
-    whole = subst (λ (x : ℕ). record_length (drop x tree) ≡ some its-row.len) (sym on.here) its-row.whole
+    whole : record_length (drop at tree) ≡ Some its-row.len
+    whole = subst (λ (x : ℕ). record_length (drop x tree) ≡ Some its-row.len) (sym on.here) its-row.whole
 
     end_is : end ≡ at + its-row.len
     end_is = e ∙ ap (λ (n : ℕ). at + n) (ap or_zero whole)
@@ -45,7 +45,7 @@ module _ {tree : List ℕ} {at i : ℕ} (on : On tree at i) {f : Fragment} (r : 
     pub its-bytes : take (end - at) (drop at tree) ≡ record_at tree i
     its-bytes = ap (λ (n : ℕ). take (n - at) (drop at tree)) end_is ∙ bytes-at tree i on.here whole
 
-    pub its-payload : fragment_payload (take (end - at) (drop at tree)) ≡ some its-row.payload
+    pub its-payload : fragment_payload (take (end - at) (drop at tree)) ≡ Some its-row.payload
     its-payload = ap fragment_payload its-bytes ∙ its-row.fits
 
     pub next : On tree end (i + 1)

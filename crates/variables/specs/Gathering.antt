@@ -1,6 +1,5 @@
 -- Variables as values of the code: each is a class and a number, and the distinct ones met so far stand in a row of twelve.
-use Rattle.std.specs.Prelude.{ℕ, ◌+◌, ◌-◌, ◌≤◌, ◌<◌, Bool, true, false, cond, ◌&&◌, ◌||◌, List, [], ◌∷◌, ◌++◌, map, ◌≡◌, eqb, leb, length, take, set}
-use Rattle.std.proofs.Math.Option.{some}
+use Rattle.std.specs.Prelude.{ℕ, ◌+◌, ◌-◌, ◌≤◌, ◌<◌, Bool, true, false, cond, ◌&&◌, ◌||◌, List, [], ◌∷◌, ◌++◌, map, ◌≡◌, eqb, leb, length, take, set, Some}
 use Rattle.records.specs.Numbers.{between}
 use Rattle.records.specs.Payloads.{Payload}
 use Rattle.records.specs.RecordForm.{fragment_payload}
@@ -112,4 +111,4 @@ pub record OwnIs (bytes : List ℕ) (r : Own) : Type 0 where
 -- a record of the form
 pub record Fits (bytes : List ℕ) : Type 0 where
   pub payload : Payload
-  pub fits : fragment_payload bytes ≡ some payload
+  pub fits : fragment_payload bytes ≡ Some payload

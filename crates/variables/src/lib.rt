@@ -13,17 +13,23 @@ ghost use Rattle.policies.specs.Reading.{max_records};
 ghost use Rattle.policies.specs.Array.{policy_at, Good};
 ghost use Rattle.meaning.specs.Meaning.{Variable};
 ghost use Rattle.variables.specs.Variables.{policy_variables, tree_variables};
-ghost use Rattle.variables.specs.Gathering.{code_of, same_code, has_code, row_of, Roomy, add_code, Gathered, code, key_code, class_in, codes_in, OwnIs, Fits};
+ghost use Rattle.variables.specs.Gathering.{code_of, has_code, row_of, Roomy, add_code, Gathered, code, key_code, class_in, OwnIs, Fits};
 
 // The most distinct variables.
 const MAX_VARIABLES: usize = 12;
 
 // A variable: 0 a key, 1 After, 2 Older, 3 to 6 the four hashes; and its number.
-#[derive(Clone, Copy)]
+#[derive(Clone, Copy, PartialEq, Eq)]
 pub struct Var {
     pub class: u64,
     pub number: u64,
 }
+
+// What stands where no variable does.
+const NO_VAR: Var = Var {
+    class: 0,
+    number: 0,
+};
 
 // The distinct variables met so far, or that there are more than twelve.
 #[derive(Clone, Copy)]
@@ -46,23 +52,10 @@ pub fn none_yet() -> Vars
     ensures roomy { Roomy result }
 {
     Vars {
-        list: [Var {
-            class: 0,
-            number: 0,
-        }; 12],
+        list: [NO_VAR; 12],
         len: 0,
         over: false,
     }
-}
-
-// Whether two are one variable.
-pub fn same(x: Var, y: Var) -> bool
-    ensures { result ≡ same_code x y }
-{
-    if x.class == y.class {
-        return x.number == y.number;
-    }
-    false
 }
 
 // Whether a variable was met.
@@ -70,17 +63,7 @@ fn has(t: Vars, x: Var) -> bool
     requires { Roomy t }
     ensures { result ≡ has_code x (row_of t) }
 {
-    let list = t.list;
-    let n = t.len;
-    let mut i = 0;
-    while i < n {
-        let y = list[i];
-        if same(x, y) {
-            return true;
-        }
-        i += 1;
-    }
-    false
+    t.list[..t.len].contains(&x)
 }
 
 // The variables with one more met.
@@ -95,15 +78,11 @@ pub fn add(t: Vars, x: Var) -> Vars
     if has(t, x) {
         return t;
     }
-    let mut list = t.list;
     let n = t.len;
     if n == MAX_VARIABLES {
-        return Vars {
-            list,
-            len: n,
-            over: true,
-        };
+        return Vars { over: true, ..t };
     }
+    let mut list = t.list;
     list[n] = x;
     Vars {
         list,
@@ -118,35 +97,20 @@ fn keys_of(bytes: &[u8], n: usize) -> [Var; 16]
     ensures result_len { length result ≡ 16 }
     ensures result_value { take n result ≡ map key_code (first_keys bytes.now n) }
 {
-    let mut list = [Var {
-        class: 0,
-        number: 0,
-    }; 16];
-    let mut j = 0;
-    while j < n {
+    let mut list = [NO_VAR; 16];
+    for j in 0..n {
         let number = records::key_at(bytes, j as u16);
         list[j] = Var { class: 0, number };
-        j += 1;
     }
     list
 }
 
-// The class of a leaf's kind.
-fn class_of(kind: u16) -> u64
-    ensures { result ≡ class_in kind }
-{
-    if kind < 35 {
-        return 0;
-    }
-    (kind - 35) as u64
-}
-
-// The one variable of a leaf.
+// The one variable of a leaf: kinds 34 and 35 are both keys.
 fn one_of(kind: u16, number: u64) -> Own
     ensures { (result.n ≡ 1) × (length result.list ≡ 16) × (take 1 result.list ≡ code (class_in kind) number ∷ []) }
 {
     let x = Var {
-        class: class_of(kind),
+        class: u64::from(kind.saturating_sub(35)),
         number,
     };
     Own {
@@ -160,10 +124,7 @@ fn nothing() -> Own
     ensures { (result.n ≡ 0) × (length result.list ≡ 16) }
 {
     Own {
-        list: [Var {
-            class: 0,
-            number: 0,
-        }; 16],
+        list: [NO_VAR; 16],
         n: 0,
     }
 }
@@ -184,9 +145,11 @@ pub fn own_of(bytes: &[u8]) -> Own
     if kind < 57 {
         return nothing();
     }
-    let n = parts.count;
-    let list = keys_of(bytes, n);
-    Own { list, n }
+    let list = keys_of(bytes, parts.count);
+    Own {
+        list,
+        n: parts.count,
+    }
 }
 
 // The variables with those of a record met.
@@ -198,11 +161,8 @@ fn add_own(t: Vars, own: Own) -> Vars
     let list = own.list;
     let n = own.n;
     let mut all = t;
-    let mut j = 0;
-    while j < n {
-        let x = list[j];
-        all = add(all, x);
-        j += 1;
+    for j in 0..n {
+        all = add(all, list[j]);
     }
     all
 }
@@ -214,6 +174,7 @@ pub fn add_tree(tree: &[u8], t: Vars) -> Vars
     ensures roomy { Roomy result }
 {
     let mut all = t;
+    // Records are of unequal length.
     let mut at = 0;
     while at < tree.len() {
         let end = walk::record_end(tree, at);
@@ -236,20 +197,17 @@ pub fn add_policy(pol: &[u64], i: usize, t: Vars) -> Vars
         return t;
     }
     if kind < 10 {
-        let number = head.number;
         let x = Var {
             class: kind - 3,
-            number,
+            number: head.number,
         };
         return add(t, x);
     }
     let n = head.count;
     let mut all = t;
-    let mut j = 0;
-    while j < n {
+    for j in 0..n {
         let c = policies::child(pol, i, j);
         all = add_policy(pol, c, all);
-        j += 1;
     }
     all
 }

@@ -2,7 +2,7 @@
 use Prim.Native.Nat.{ℕ, zero, suc, ◌<◌}
 use mathlib.Core.Bool.{Bool, true, false, cond}
 use mathlib.Core.List.{List, [], ◌∷◌, ◌++◌, map}
-use mathlib.Core.Option.{Option, none, some}
+use Rattle.std.specs.Prelude.{Option, None, Some}
 use mathlib.Core.Path.{◌≡◌, refl, sym, ap, subst, ◌∙◌}
 use native.Mathlib.Omega.{arith}
 use borrow.Author.Tests.{ltb-true, ltb-false}
@@ -75,8 +75,8 @@ module _ {tree : List ℕ} {f : Fragment} (r : TreeRecords tree f) (P : ℕ → 
 -- ---- a record's fragment has the children that the record says
 
 abbrev IfSome : {A : Type 0} → (A → Type 0) → Option A → Type 0
-IfSome P none = Unit
-IfSome P (some x) = P x
+IfSome P None = Unit
+IfSome P (Some x) = P x
 
 -- a maker makes a fragment of the children that it is given
 record Keeps (maker : Maker) : Type 0 where
@@ -91,7 +91,7 @@ unfolding find
 found kind no_line = tt
 found kind (line {n} {m} {ms} k ks) = by-test (eqb kind n) (found kind ks)
   where
-    by-test : (t : Bool) → IfSome Keeps (find kind ms) → IfSome Keeps (cond t (some m) (find kind ms))
+    by-test : (t : Bool) → IfSome Keeps (find kind ms) → IfSome Keeps (cond t (Some m) (find kind ms))
     by-test true h = k
     by-test false h = h
 
@@ -162,18 +162,18 @@ makers-keep =
     (line (three-keeps AndOr λ x y z. refl) (line (record { kept = λ p xs. to-fragments xs })
     (line (keys-keeps Multi λ k ks. refl) (line (keys-keeps MultiA λ k ks. refl) no_line))))))))))))))))))))))))))
 
-made_of : (kind : ℕ) (p : Payload) (xs : List Fragment) {f : Fragment} → fragment_of kind p xs ≡ some f → children_in f ≡ xs
+made_of : (kind : ℕ) (p : Payload) (xs : List Fragment) {f : Fragment} → fragment_of kind p xs ≡ Some f → children_in f ≡ xs
 made_of kind p xs {f} e = by-maker (find kind makers) (found kind makers-keep) e
   where
-    by-made : (o : Option Fragment) → IfSome (λ f. children_in f ≡ xs) o → o ≡ some f → children_in f ≡ xs
-    by-made (some g) h e =
+    by-made : (o : Option Fragment) → IfSome (λ f. children_in f ≡ xs) o → o ≡ Some f → children_in f ≡ xs
+    by-made (Some g) h e =
         let same : f ≡ g = cc in
         rw same h
-    by-made none h e = absurd (let z : ◌≡◌ {A = ℕ} 0 1 = cc in omega arith)
+    by-made None h e = absurd (let z : ◌≡◌ {A = ℕ} 0 1 = cc in omega arith)
 
-    by-maker : (o : Option Maker) → IfSome Keeps o → made_by o p xs ≡ some f → children_in f ≡ xs
-    by-maker (some m) k e = by-made (m p xs) (k.kept p xs) e
-    by-maker none k e = absurd (let z : ◌≡◌ {A = ℕ} 0 1 = cc in omega arith)
+    by-maker : (o : Option Maker) → IfSome Keeps o → made_by o p xs ≡ Some f → children_in f ≡ xs
+    by-maker (Some m) k e = by-made (m p xs) (k.kept p xs) e
+    by-maker None k e = absurd (let z : ◌≡◌ {A = ℕ} 0 1 = cc in omega arith)
 
 -- the children of record i's fragment are the fragments of its children
 pub children-at : {tree : List ℕ} {i : ℕ} (row : TreeRecord tree i) → children_in (fragment_at tree i) ≡ map (fragment_at tree) (children_of row.payload)
@@ -219,8 +219,8 @@ module _ {A : Type 0} (◌·◌ : A → A → A) (unit : A) (laws : Gathers ◌�
 
   abbrev every_free : Slots Fragment → A
   every_free [] = unit
-  every_free (none ∷ slots) = every_free slots
-  every_free (some x ∷ slots) = value x · every_free slots
+  every_free (None ∷ slots) = every_free slots
+  every_free (Some x ∷ slots) = value x · every_free slots
 
   left-unit : (x : A) → unit · x ≡ x
   left-unit x = laws.comm unit x ∙ laws.right-unit x
@@ -228,48 +228,48 @@ module _ {A : Type 0} (◌·◌ : A → A → A) (unit : A) (laws : Gathers ◌�
   exchange : (x y z : A) → x · (y · z) ≡ y · (x · z)
   exchange x y z = sym (laws.assoc x y z) ∙ ap (λ (w : A). w · z) (laws.comm x y) ∙ laws.assoc y x z
 
-  free-set : (slots : Slots Fragment) (j : ℕ) {x : Fragment} → get_or slots j none ≡ some x
-      → every_free slots ≡ value x · every_free (set slots j none)
+  free-set : (slots : Slots Fragment) (j : ℕ) {x : Fragment} → get_or slots j None ≡ Some x
+      → every_free slots ≡ value x · every_free (set slots j None)
   free-set [] zero e = absurd (let z : ◌≡◌ {A = ℕ} 0 1 = cc in omega arith)
   free-set [] (suc j) e = absurd (let z : ◌≡◌ {A = ℕ} 0 1 = cc in omega arith)
-  free-set (none ∷ slots) zero e = absurd (let z : ◌≡◌ {A = ℕ} 0 1 = cc in omega arith)
-  free-set (some y ∷ slots) zero {x} e =
+  free-set (None ∷ slots) zero e = absurd (let z : ◌≡◌ {A = ℕ} 0 1 = cc in omega arith)
+  free-set (Some y ∷ slots) zero {x} e =
       let same : y ≡ x = cc in
       rw same
-  free-set (none ∷ slots) (suc j) e = free-set slots j e
-  free-set (some y ∷ slots) (suc j) {x} e =
-      ap (λ (b : A). value y · b) (free-set slots j e) ∙ exchange (value y) (value x) (every_free (set slots j none))
+  free-set (None ∷ slots) (suc j) e = free-set slots j e
+  free-set (Some y ∷ slots) (suc j) {x} e =
+      ap (λ (b : A). value y · b) (free-set slots j e) ∙ exchange (value y) (value x) (every_free (set slots j None))
 
-  free-taken : (js : List ℕ) (slots : Slots Fragment) {taken : Taken Fragment} → take_all js slots ≡ some taken
+  free-taken : (js : List ℕ) (slots : Slots Fragment) {taken : Taken Fragment} → take_all js slots ≡ Some taken
       → every_free slots ≡ every_of taken.those · every_free taken.left
   unfolding take_all every
   free-taken [] slots {taken} e =
       let same : taken ≡ record { those = []; left = slots } = cc in
       rw same (sym (left-unit (every_free slots)))
   free-taken (j ∷ js) slots {taken} e =
-      let d = first_done (get_or slots j none) (take_all js (set slots j none)) e in
-      free-set slots j d.2 ∙ with_first d.0 d.1 d.4 d.5 (free-taken js (set slots j none) d.3)
+      let d = first_done (get_or slots j None) (take_all js (set slots j None)) e in
+      free-set slots j d.2 ∙ with_first d.0 d.1 d.4 d.5 (free-taken js (set slots j None) d.3)
     where
       with_first : {rest : A} (x : Fragment) (s : Taken Fragment) → taken.those ≡ x ∷ s.those → taken.left ≡ s.left
           → rest ≡ every_of s.those · every_free s.left → value x · rest ≡ every_of taken.those · every_free taken.left
       with_first x s those left e = rw (those, left, e) (sym (laws.assoc (value x) (every_of s.those) (every_free s.left)))
 
-  free_more : (slots : Slots Fragment) (f : Fragment) → every_free (slots ++ (some f ∷ [])) ≡ every_free slots · value f
+  free_more : (slots : Slots Fragment) (f : Fragment) → every_free (slots ++ (Some f ∷ [])) ≡ every_free slots · value f
   free_more [] f = laws.comm (value f) unit
-  free_more (none ∷ slots) f = free_more slots f
-  free_more (some x ∷ slots) f =
+  free_more (None ∷ slots) f = free_more slots f
+  free_more (Some x ∷ slots) f =
       ap (λ (b : A). value x · b) (free_more slots f) ∙ sym (laws.assoc (value x) (every_free slots) (value f))
 
   -- at the end only the root is free
-  root-free : (slots : Slots Fragment) {f : Fragment} → root_of slots ≡ some f → every_free slots ≡ value f
+  root-free : (slots : Slots Fragment) {f : Fragment} → root_of slots ≡ Some f → every_free slots ≡ value f
   unfolding root_of
   root-free [] e = absurd (let z : ◌≡◌ {A = ℕ} 0 1 = cc in omega arith)
-  root-free (none ∷ []) e = absurd (let z : ◌≡◌ {A = ℕ} 0 1 = cc in omega arith)
-  root-free (some x ∷ []) {f} e =
+  root-free (None ∷ []) e = absurd (let z : ◌≡◌ {A = ℕ} 0 1 = cc in omega arith)
+  root-free (Some x ∷ []) {f} e =
       let same : x ≡ f = cc in
       laws.right-unit (value x) ∙ ap value same
-  root-free (none ∷ o ∷ slots) e = root-free (o ∷ slots) e
-  root-free (some x ∷ o ∷ slots) e = absurd (let z : ◌≡◌ {A = ℕ} 0 1 = cc in omega arith)
+  root-free (None ∷ o ∷ slots) e = root-free (o ∷ slots) e
+  root-free (Some x ∷ o ∷ slots) e = absurd (let z : ◌≡◌ {A = ℕ} 0 1 = cc in omega arith)
 
   -- ---- of the records read, which are those of the free slots
 

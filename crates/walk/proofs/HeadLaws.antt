@@ -1,7 +1,7 @@
 -- The head of a record's fragment (specs/Heads.antt) is the one that its bytes write. Assumes nothing.
 use Prim.Native.Nat.{ℕ, ◌≤◌}
 use mathlib.Core.List.{List, []}
-use mathlib.Core.Option.{some}
+use Rattle.std.specs.Prelude.{Some}
 use mathlib.Core.Path.{◌≡◌, refl, sym, ap, ◌∙◌}
 use native.Mathlib.Omega.{arith}
 use Rattle.records.specs.Payloads.{Payload, number_of, k_of, count_of, keys_of, first_keys, count_in}
@@ -30,7 +30,7 @@ module _ {tree : List ℕ} {i : ℕ} {bytes : List ℕ} {kind : ℕ} {parts : Pa
   payload = told.row.payload
 
   abbrev its-head : Head
-  its-head = head_with kind (some payload)
+  its-head = head_with kind (Some payload)
 
   number-told : parts.number ≡ number_of payload
   number-told = ap (λ (x : Parts). x.number) told.parts_are

@@ -2,7 +2,7 @@
 use Prim.Native.Nat.{ℕ, suc, ◌+◌, ◌≤◌, ◌<◌}
 use mathlib.Core.Bool.{Bool, true, false}
 use mathlib.Core.List.{List, [], ◌∷◌, map}
-use mathlib.Core.Option.{Option, some}
+use Rattle.std.specs.Prelude.{Option, Some}
 use mathlib.Core.Path.{◌≡◌, refl, sym, ap, subst, ◌∙◌}
 use native.Mathlib.Omega.{arith}
 use borrow.Author.Tests.{leb-true, leb-false}
@@ -31,23 +31,23 @@ use Rattle.walk.specs.TreeRecords.{fragment_at, children_from, Told}
 
 -- what the maker of a kind makes of a payload that is known
 made_as : (tree : List ℕ) (i kind : ℕ) (p q : Payload) (m : Maker) {f : Fragment}
-    → fragment_of kind p (map (fragment_at tree) (children_of p)) ≡ some (fragment_at tree i)
-    → find kind makers ≡ some m → p ≡ q → m q (map (fragment_at tree) (children_of q)) ≡ some f → fragment_at tree i ≡ f
+    → fragment_of kind p (map (fragment_at tree) (children_of p)) ≡ Some (fragment_at tree i)
+    → find kind makers ≡ Some m → p ≡ q → m q (map (fragment_at tree) (children_of q)) ≡ Some f → fragment_at tree i ≡ f
 made_as tree i kind p q m {f} made k e g =
-    let of-q = subst (λ (q : Payload). fragment_of kind q (map (fragment_at tree) (children_of q)) ≡ some (fragment_at tree i)) e made in
-    let by-m = subst (λ (o : Option Maker). made_by o q (map (fragment_at tree) (children_of q)) ≡ some (fragment_at tree i)) k of-q in
+    let of-q = subst (λ (q : Payload). fragment_of kind q (map (fragment_at tree) (children_of q)) ≡ Some (fragment_at tree i)) e made in
+    let by-m = subst (λ (o : Option Maker). made_by o q (map (fragment_at tree) (children_of q)) ≡ Some (fragment_at tree i)) k of-q in
     cc (by-m, g)
 
 module _ {tree : List ℕ} {i : ℕ} {bytes : List ℕ} {kind : ℕ} {parts : Parts} (told : Told tree i bytes kind parts) where
   abbrev payload : Payload
   payload = told.row.payload
 
-  fits : fragment_payload bytes ≡ some payload
+  fits : fragment_payload bytes ≡ Some payload
   fits = ap fragment_payload told.bytes-are ∙ told.row.fits
 
-  made : fragment_of kind payload (map (fragment_at tree) (children_of payload)) ≡ some (fragment_at tree i)
+  made : fragment_of kind payload (map (fragment_at tree) (children_of payload)) ≡ Some (fragment_at tree i)
   made =
-      subst (λ (k : ℕ). fragment_of k payload (map (fragment_at tree) (children_of payload)) ≡ some (fragment_at tree i))
+      subst (λ (k : ℕ). fragment_of k payload (map (fragment_at tree) (children_of payload)) ≡ Some (fragment_at tree i))
       (sym (told.kind-is ∙ ap kind_of told.bytes-are)) told.row.makes
 
   pub fragment-kind : (32 ≤ kind) × (kind ≤ 58)
@@ -56,8 +56,8 @@ module _ {tree : List ℕ} {i : ℕ} {bytes : List ℕ} {kind : ℕ} {parts : Pa
       (omega (arith, c.from, told.kind-is), omega (arith, c.to, told.kind-is))
 
   -- the payload is of the kind's shape
-  of-shape : (low high : ℕ) {shape : Shape} → look_up_range rows low high ≡ some (some shape) → low ≤ kind → kind ≤ high
-      → payload_of shape bytes ≡ some payload
+  of-shape : (low high : ℕ) {shape : Shape} → look_up_range rows low high ≡ Some (Some shape) → low ≤ kind → kind ≤ high
+      → payload_of shape bytes ≡ Some payload
   of-shape low high t l h =
       let is = shapes-in low high t (kind_of bytes) (omega (arith, told.kind-is)) (omega (arith, told.kind-is)) in
       sym (of-fragment bytes (fragment-record bytes fits).0 is) ∙ fits
@@ -97,11 +97,11 @@ module _ {tree : List ℕ} {i : ℕ} {bytes : List ℕ} {kind : ℕ} {parts : Pa
       by_tests false true d e = is-lock bytes (of-shape 36 37 refl (omega (arith, leb-false kind 35 d)) (leb-true kind 37 e))
       by_tests false false d e = is_number bytes (of-shape 38 41 refl (omega (arith, leb-false kind 37 e)) h)
 
-  plain-made : (f : Fragment) → find kind makers ≡ some (plain f) → kind ≤ 33 → fragment_at tree i ≡ f
+  plain-made : (f : Fragment) → find kind makers ≡ Some (plain f) → kind ≤ 33 → fragment_at tree i ≡ f
   plain-made f k h =
       made_as tree i kind payload nothing (plain f) made k (no_payload h) refl
 
-  number-made : (f : ℕ → Fragment) → find kind makers ≡ some (with_number f) → 34 ≤ kind → kind ≤ 41 → fragment_at tree i ≡ f parts.number
+  number-made : (f : ℕ → Fragment) → find kind makers ≡ Some (with_number f) → 34 ≤ kind → kind ≤ 41 → fragment_at tree i ≡ f parts.number
   number-made f k l h =
       let q = number (number_in bytes) in
       made_as tree i kind payload q (with_number f) made k (number-payload l h) refl ∙ ap f (sym (number_is q (number-payload l h)))
@@ -149,7 +149,7 @@ module _ {tree : List ℕ} {i : ℕ} {bytes : List ℕ} {kind : ℕ} {parts : Pa
   pub keys-payload : 57 ≤ kind → payload ≡ keys (k_in bytes) (keys_in bytes)
   keys-payload l = is-keys bytes (of-shape 57 58 refl l fragment-kind.1)
 
-  keys-made : (f : ℕ → List ℕ → Fragment) → find kind makers ≡ some (of_keys f) → 57 ≤ kind
+  keys-made : (f : ℕ → List ℕ → Fragment) → find kind makers ≡ Some (of_keys f) → 57 ≤ kind
       → fragment_at tree i ≡ f parts.k (first_keys bytes parts.count)
   keys-made f k l =
       let q = keys (k_in bytes) (keys_in bytes) in
@@ -171,7 +171,7 @@ module _ {tree : List ℕ} {i : ℕ} {bytes : List ℕ} {kind : ℕ} {parts : Pa
   pub one-payload : 42 ≤ kind → kind ≤ 48 → payload ≡ children (u16 bytes 4 ∷ [])
   one-payload l h = is-one-child bytes (of-shape 42 48 refl l h)
 
-  one-made : (f : Fragment → Fragment) → find kind makers ≡ some (one f) → 42 ≤ kind → kind ≤ 48
+  one-made : (f : Fragment → Fragment) → find kind makers ≡ Some (one f) → 42 ≤ kind → kind ≤ 48
       → fragment_at tree i ≡ f (fragment_at tree (get_or parts.children 0 0))
   one-made f k l h =
       let q = children (u16 bytes 4 ∷ []) in
@@ -212,7 +212,7 @@ module _ {tree : List ℕ} {i : ℕ} {bytes : List ℕ} {kind : ℕ} {parts : Pa
   pub two-payload : 49 ≤ kind → kind ≤ 54 → payload ≡ children (u16 bytes 4 ∷ u16 bytes 6 ∷ [])
   two-payload l h = is-two-children bytes (of-shape 49 54 refl l h)
 
-  two_made : (f : Fragment → Fragment → Fragment) → find kind makers ≡ some (two f) → 49 ≤ kind → kind ≤ 54
+  two_made : (f : Fragment → Fragment → Fragment) → find kind makers ≡ Some (two f) → 49 ≤ kind → kind ≤ 54
       → fragment_at tree i ≡ f (fragment_at tree (get_or parts.children 0 0)) (fragment_at tree (get_or parts.children 1 0))
   two_made f k l h =
       let q = children (u16 bytes 4 ∷ u16 bytes 6 ∷ []) in
@@ -302,12 +302,12 @@ module _ {tree : List ℕ} {i : ℕ} {bytes : List ℕ} {kind : ℕ} {parts : Pa
       by-test true e =
           let is = thresh-payload (omega (arith, leb-true kind 56 e)) in
           of_parts (threshold (k_in bytes) (u16s bytes 8 (count_in bytes))) is
-          (Laws.threshold-bounds bytes (of-shape 56 56 refl l (leb-true kind 56 e) ∙ ap some is))
+          (Laws.threshold-bounds bytes (of-shape 56 56 refl l (leb-true kind 56 e) ∙ ap Some is))
       by-test false e =
           let h = leb-false kind 56 e in
           let is = keys-payload h in
           of_parts (keys (k_in bytes) (keys_in bytes)) is
-          (Laws.keys-bounds bytes (of-shape 57 58 refl h fragment-kind.1 ∙ ap some is))
+          (Laws.keys-bounds bytes (of-shape 57 58 refl h fragment-kind.1 ∙ ap Some is))
 
 -- ---- the children of a Thresh, one after the other
 

@@ -3,7 +3,7 @@ use Prim.Native.Nat.{ℕ, zero, suc, ◌+◌, ◌-◌, ◌≤◌, ◌<◌}
 use mathlib.Core.Bool.{Bool, true, false}
 use mathlib.Core.List.{List, [], ◌∷◌, ◌++◌}
 use mathlib.Core.Logic.{◌⊎◌, inl, inr}
-use mathlib.Core.Option.{none, some}
+use Rattle.std.specs.Prelude.{None, Some}
 use mathlib.Core.Path.{◌≡◌, refl, sym, ap, ◌∙◌}
 use native.Mathlib.Omega.{arith}
 use borrow.Author.Tests.{leb-true, leb-false, ltb-true, ltb-false}
@@ -64,8 +64,8 @@ pub start_first : (tree : List ℕ) → start_of tree 0 ≡ 0
 unfolding start_of
 start_first tree = refl
 
-module _ (tree : List ℕ) (i : ℕ) {at len : ℕ} (s : at ≡ start_of tree i) (e : record_length (drop at tree) ≡ some len) where
-  whole_here : record_length (drop (start_of tree i) tree) ≡ some len
+module _ (tree : List ℕ) (i : ℕ) {at len : ℕ} (s : at ≡ start_of tree i) (e : record_length (drop at tree) ≡ Some len) where
+  whole_here : record_length (drop (start_of tree i) tree) ≡ Some len
   whole_here = rw (← s) e
 
   pub start-next : at + len ≡ start_of tree (i + 1)
@@ -79,7 +79,7 @@ module _ (tree : List ℕ) (i : ℕ) {at len : ℕ} (s : at ≡ start_of tree i)
       rw (n, s) (sym (bytes-are tree i whole_here))
 
 module _ {tree : List ℕ} {f : Fragment} (r : TreeRecords tree f) where
-  whole-at : (i : ℕ) {at : ℕ} (s : at ≡ start_of tree i) (h : i < r.count) → record_length (drop at tree) ≡ some (r.row i h).len
+  whole-at : (i : ℕ) {at : ℕ} (s : at ≡ start_of tree i) (h : i < r.count) → record_length (drop at tree) ≡ Some (r.row i h).len
   whole-at i s h = rw s (r.row i h).whole
 
   pub inside : (i : ℕ) {at : ℕ} → at ≡ start_of tree i → i < r.count → at < length tree
@@ -103,13 +103,13 @@ module _ {tree : List ℕ} {f : Fragment} (r : TreeRecords tree f) where
       by-test true e = absurd (omega (arith, inside i s (ltb-true i r.count e)))
       by-test false e = omega (arith, ltb-false i r.count e)
 
-  pub never-broken : (i : ℕ) {at : ℕ} → at ≡ start_of tree i → i < r.count → record_length (drop at tree) ≡ none → ⊥
+  pub never-broken : (i : ℕ) {at : ℕ} → at ≡ start_of tree i → i < r.count → record_length (drop at tree) ≡ None → ⊥
   never-broken i s h e =
       let w = whole-at i s h in
       let z : ◌≡◌ {A = ℕ} 0 1 = cc (w, e) in
       omega arith
 
-  pub never-unfit : (i : ℕ) (bytes : List ℕ) → i < r.count → bytes ≡ record_at tree i → fragment_payload bytes ≡ none → ⊥
+  pub never-unfit : (i : ℕ) (bytes : List ℕ) → i < r.count → bytes ≡ record_at tree i → fragment_payload bytes ≡ None → ⊥
   never-unfit i bytes h b e =
       let w = ap fragment_payload b ∙ (r.row i h).fits in
       let z : ◌≡◌ {A = ℕ} 0 1 = cc (w, e) in

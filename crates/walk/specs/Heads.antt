@@ -1,6 +1,5 @@
 -- A fragment as what stands in its own record and its children: document 01, "Records", the kinds 32 to 58.
-use Rattle.std.specs.Prelude.{ℕ, List, [], ◌∷◌}
-use Rattle.std.proofs.Math.Option.{Option, none, some}
+use Rattle.std.specs.Prelude.{ℕ, List, [], ◌∷◌, Option, None, Some}
 use Rattle.records.specs.Payloads.{Payload, number_of, k_of, keys_of}
 use Rattle.records.specs.RecordForm.{kind_of, fragment_payload}
 use Rattle.contexts.specs.Leaves.{LockKind, After, Older, HashKind, Sha256, Hash256, Ripemd160, Hash160}
@@ -87,8 +86,8 @@ children_in (MultiA k keys) = []
 
 -- the head that a record's bytes write
 abbrev pub head_with : (kind : ℕ) → Option Payload → Head
-head_with kind (some p) = record { kind = kind; number = number_of p; k = k_of p; keys = keys_of p }
-head_with kind none = plain kind
+head_with kind (Some p) = record { kind = kind; number = number_of p; k = k_of p; keys = keys_of p }
+head_with kind None = plain kind
 
 abbrev pub head_in : List ℕ → Head
 head_in bytes = head_with (kind_of bytes) (fragment_payload bytes)

@@ -1,7 +1,6 @@
 -- The records of a tree, one by one: document 01, "Records" (each has a number, from 0 on, and children are smaller numbers).
 -- proofs/Laws.antt shows that a tree that the check passed is made up of them.
-use Rattle.std.specs.Prelude.{ℕ, zero, suc, ◌+◌, ◌-◌, ◌≤◌, ◌<◌, List, [], ◌∷◌, ◌++◌, map, ◌≡◌, length, get_or, take, drop}
-use Rattle.std.proofs.Math.Option.{Option, none, some}
+use Rattle.std.specs.Prelude.{ℕ, zero, suc, ◌+◌, ◌-◌, ◌≤◌, ◌<◌, List, [], ◌∷◌, ◌++◌, map, ◌≡◌, length, get_or, take, drop, Option, None, Some}
 use Rattle.records.specs.Numbers.{or_zero}
 use Rattle.records.specs.Payloads.{Payload, children_of}
 use Rattle.records.specs.RecordForm.{record_length, kind_of, fragment_payload}
@@ -29,12 +28,12 @@ starts_of tree (suc n) = starts_of tree n ++ (start_of tree n ∷ [])
 
 -- what a record makes of the fragments of the records before it; False stands where it makes nothing
 abbrev pub or_false : Option Fragment → Fragment
-or_false (some f) = f
-or_false none = False
+or_false (Some f) = f
+or_false None = False
 
 abbrev pub made_of : List Fragment → (kind : ℕ) → Option Payload → Fragment
-made_of before kind (some p) = or_false (fragment_of kind p (map (λ j. get_or before j False) (children_of p)))
-made_of before kind none = False
+made_of before kind (Some p) = or_false (fragment_of kind p (map (λ j. get_or before j False) (children_of p)))
+made_of before kind None = False
 
 -- the fragments of the first n records, and that of record i
 unfoldable pub fragments_of : List ℕ → ℕ → List Fragment
@@ -53,10 +52,10 @@ children_from tree children j n = fragments (map (fragment_at tree) (drop j (tak
 pub record TreeRecord (tree : List ℕ) (i : ℕ) : Type 0 where
   pub len : ℕ
   pub payload : Payload
-  pub whole : record_length (drop (start_of tree i) tree) ≡ some len
-  pub fits : fragment_payload (record_at tree i) ≡ some payload
+  pub whole : record_length (drop (start_of tree i) tree) ≡ Some len
+  pub fits : fragment_payload (record_at tree i) ≡ Some payload
   pub before : (j : ℕ) → j < length (children_of payload) → get_or (children_of payload) j 0 < i
-  pub makes : fragment_of (kind_of (record_at tree i)) payload (map (fragment_at tree) (children_of payload)) ≡ some (fragment_at tree i)
+  pub makes : fragment_of (kind_of (record_at tree i)) payload (map (fragment_at tree) (children_of payload)) ≡ Some (fragment_at tree i)
 
 -- The bytes write the tree and are so many records, one after the other, of which the last makes it.
 pub record TreeRecords (tree : List ℕ) (f : Fragment) : Type 0 where
@@ -78,4 +77,4 @@ pub record Told (tree : List ℕ) (i : ℕ) (bytes : List ℕ) (kind : ℕ) (par
   pub row : TreeRecord tree i
   pub bytes-are : bytes ≡ record_at tree i
   pub kind-is : kind ≡ kind_of bytes
-  pub parts_are : parts ≡ parts_of (some row.payload)
+  pub parts_are : parts ≡ parts_of (Some row.payload)

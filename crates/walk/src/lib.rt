@@ -10,8 +10,6 @@ ghost use Rattle.trees.specs.Reading.{max_records};
 ghost use Rattle.walk.specs.TreeRecords.{Written, length_from, record_at};
 ghost use Rattle.walk.specs.Nodes.{node_of, Placed, Scanned};
 
-use records::RecordLength;
-
 // A record: its kind, its k, and its n children, by their numbers; zeros follow them.
 #[derive(Clone, Copy)]
 pub struct Node {
@@ -26,8 +24,8 @@ pub fn record_end(tree: &[u8], start: usize) -> usize
     ensures { result ≡ start + length_from tree.now start }
 {
     match records::length_at(tree, start) {
-        RecordLength::Whole(len) => start + len,
-        RecordLength::Broken => start,
+        Some(len) => start + len,
+        None => start,
     }
 }
 
@@ -63,6 +61,7 @@ pub fn scan(tree: &[u8], work: &mut [u64]) -> usize
 {
     let mut at = 0;
     let mut count = 0;
+    // A `while`, since records are of unequal length.
     while at < tree.len() {
         work[count] = at as u64;
         at = record_end(tree, at);

@@ -7,7 +7,6 @@
 
 ghost use Rattle.std.specs.Prelude.{◌≡◌, ◌≤◌, length};
 
-use files::Loaded;
 use std::io::IsTerminal;
 use std::rt::{Env, Files};
 
@@ -25,7 +24,7 @@ fn run<R: Files + Print + Eprint>(rt: &R, terminal: bool, text: &[u8])
 fn run_in<R: Env + Files + Input + Print + Eprint>(rt: &R, terminal: bool, room: &mut [u8])
     requires { length room.old ≡ 2097153 }
 {
-    let Loaded::Bytes(n) = files::load_word(
+    let Some(n) = files::load_word(
         rt,
         1,
         b"LIST",

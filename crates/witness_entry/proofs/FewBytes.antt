@@ -9,8 +9,7 @@ use Rattle.trees.specs.Reading.{Answer, done, ◌>>=◌, or_refuse, max_records}
 use Rattle.trees.specs.TreeCheck.{Typed, bad_context, bad_work, context_of, check_of}
 use Rattle.walk.proofs.ReadRecords.{bind_done}
 use Rattle.walk.proofs.Laws.{rows}
-use Rattle.witness_ways.specs.declared.Extremes.{Extremes}
-use Rattle.witness_ways.specs.Extremes.{sat, extremes, smallest_in, largest_in}
+use Rattle.witness_ways.specs.Extremes.{Extremes, sat, extremes, smallest_in, largest_in}
 use Rattle.witness_ways.proofs.Theorem.{spends-computed, spends-once}
 use Rattle.witness_rules.specs.Bounds.{Below, none, both}
 use Rattle.witness_entry.specs.Witness.{work_of, tree_in, Results, refuses, spends, WitnessPromise}

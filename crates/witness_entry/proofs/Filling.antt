@@ -2,7 +2,7 @@
 use Prim.Native.Nat.{ℕ, ◌+◌, ◌*◌, ◌-◌, ◌≤◌, ◌<◌}
 use mathlib.Core.Bool.{Bool, true, false}
 use mathlib.Core.List.{List, map}
-use mathlib.Core.Option.{some}
+use Rattle.std.specs.Prelude.{Some}
 use mathlib.Core.Path.{◌≡◌, refl, sym, ap, subst, ◌∙◌}
 use native.Mathlib.Omega.{arith}
 use borrow.Author.Tests.{eqb-true, eqb-false}
@@ -85,8 +85,8 @@ module _ {c : Context} {tree work : List ℕ} {at i : ℕ} (on : FillOn c tree w
     its-row : TreeRecord tree i
     its-row = r.row i (some_left h)
 
-    whole : record_length (drop at tree) ≡ some its-row.len
-    whole = subst (λ (x : ℕ). record_length (drop x tree) ≡ some its-row.len) (sym on.here) its-row.whole
+    whole : record_length (drop at tree) ≡ Some its-row.len
+    whole = subst (λ (x : ℕ). record_length (drop x tree) ≡ Some its-row.len) (sym on.here) its-row.whole
 
     end_is : end ≡ at + its-row.len
     end_is = e ∙ ap (λ (n : ℕ). at + n) (ap or_zero whole)

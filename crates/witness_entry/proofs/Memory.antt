@@ -2,6 +2,7 @@
 use Prim.Native.Nat.{ℕ, zero, suc, ◌+◌, ◌*◌, ◌-◌, ◌/◌, ◌%◌, ◌≤◌, ◌<◌}
 use mathlib.Core.Bool.{Bool, true, false}
 use mathlib.Core.List.{List, [], ◌∷◌, map}
+use Rattle.std.specs.Prelude.{None, Some}
 use mathlib.Core.Path.{◌≡◌, refl, sym, ap, ◌∙◌}
 use native.Mathlib.Omega.{arith}
 use native.Mathlib.Nat.{mod-lt, div-lt_iff_lt-mul}
@@ -10,8 +11,7 @@ use lib.Dec.{eqb, ltb}
 use lib.ListN.{length, get_or, set, take, replicate, length-set, length-map, get_or-replicate, get_or-eq_default}
 use lib.Seq.{get_or-set_same, get_or-set_other, get_or-take, ext_get_or, length-take-le}
 use Rattle.words.proofs.Packing.{digit, rest}
-use Rattle.witness_ways.specs.declared.Extremes.{Extremes}
-use Rattle.witness_ways.specs.declared.Extremes.TheVariants.{NoWay, Bytes}
+use Rattle.witness_ways.specs.Extremes.{Extremes, bytes}
 use Rattle.witness_ways.specs.declared.Both.{Both}
 use Rattle.witness_rules.specs.Bounds.{Below, none, both, BothBelow, AllBelow, neither, small}
 use Rattle.witness_rules.specs.ByKind.{child}
@@ -20,22 +20,22 @@ use Rattle.witness_entry.specs.Memory.{word_of, extremes_in, both_in, put_both, 
 -- ---- a word
 
 pub word_back : (e : Extremes) → Below 2147483648 e → extremes_in (word_of e) ≡ e
-word_back NoWay h = refl
-word_back (Bytes a b) (both k l) =
-    let one : 1 + (a + b * 4294967296) ≡ suc (a + b * 4294967296) = omega arith in
-    rw (one, digit 4294967296 a b (omega arith), rest 4294967296 a b (omega arith))
+word_back None h = refl
+word_back (Some x) (both k l) =
+    let one : 1 + (x.fewest + x.most * 4294967296) ≡ suc (x.fewest + x.most * 4294967296) = omega arith in
+    rw (one, digit 4294967296 x.fewest x.most (omega arith), rest 4294967296 x.fewest x.most (omega arith))
 
-pub not-zero : (w : ℕ) → (w ≡ 0 → ⊥) → Bytes ((w - 1) % 4294967296) ((w - 1) / 4294967296) ≡ extremes_in w
+pub not-zero : (w : ℕ) → (w ≡ 0 → ⊥) → bytes ((w - 1) % 4294967296) ((w - 1) / 4294967296) ≡ extremes_in w
 not-zero zero h = absurd (h refl)
 not-zero (suc w) h =
     let same : suc w - 1 ≡ w = omega arith in
     rw same
 
-pub word-few : (w : ℕ) → w < 18446744073709551616 → Below small (Bytes ((w - 1) % 4294967296) ((w - 1) / 4294967296))
+pub word-few : (w : ℕ) → w < 18446744073709551616 → Below small (bytes ((w - 1) % 4294967296) ((w - 1) / 4294967296))
 word-few w h =
     let low = mod-lt (w - 1) {m = 4294967296} (omega arith) in
     let high = (div-lt_iff_lt-mul {k = 4294967296} {x = w - 1} {y = 4294967296} (omega arith)).1 (omega arith) in
-    both {smallest = (w - 1) % 4294967296} {largest = (w - 1) / 4294967296} (omega (arith, low)) (omega (arith, high))
+    both (omega (arith, low)) (omega (arith, high))
 
 -- ---- a record's two words
 

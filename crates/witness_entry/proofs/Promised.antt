@@ -1,8 +1,8 @@
 -- The entry's promise: what the check refuses is refused, and a tree that passes has its extremes. Assumes nothing.
 use Prim.Native.Nat.{ℕ, ◌+◌, ◌-◌, ◌*◌, ◌≤◌, ◌<◌}
 use mathlib.Core.List.{List, ◌++◌}
-use mathlib.Core.Option.{Option, none, some}
-use mathlib.Core.Path.{◌≡◌, refl, sym, ap, subst, ◌∙◌}
+use Rattle.std.specs.Prelude.{None, Some, Result, Ok, Err}
+use mathlib.Core.Path.{◌≡◌, refl, sym, ap, ◌∙◌}
 use native.Mathlib.Omega.{arith}
 use borrow.Author.Tests.{eq-eqb, ne_eqb, eqb-true, eqb-false}
 use mathlib.Core.Bool.{Bool, true, false}
@@ -11,21 +11,24 @@ use lib.ListN.{length, take, drop, replicate, length-append, length-drop}
 use lib.Seq.{length-take-le}
 use Rattle.words.specs.Memory.{zeroed}
 use Rattle.contexts.specs.declared.Context.{Context}
+use Rattle.contexts.specs.declared.Context.TheVariants.{Segwitv0, Tap}
 use Rattle.trees.specs.Fragment.{Fragment}
-use Rattle.trees.specs.Reading.{Answer, refused, done, max_records}
-use Rattle.trees.specs.TreeCheck.{Typed, bad_context, context_of, check_of}
-use Rattle.claspwillow.specs.Promises.{CheckPromise}
-use Rattle.claspwillow.proofs.CheckLaws.{passed, refused_as}
+use Rattle.trees.specs.Reading.{Answer, refused, done}
+use Rattle.trees.specs.TreeCheck.{Typed, context_of, check_of}
+use Rattle.refusals.specs.declared.Refusal.{Refusal}
+use Rattle.refusals.specs.Numbers.{number_of}
+use Rattle.types.specs.declared.«Type».{«Type»}
+use Rattle.trees.specs.Checked.{type_only}
+use Rattle.claspwillow.specs.Results.{number_in}
+use Rattle.claspwillow.proofs.CheckLaws.{Passed, passed-as, refused-by}
 use Rattle.walk.specs.TreeRecords.{fragment_at, TreeRecords, Written}
 use Rattle.walk.proofs.Laws.{rows}
-use Rattle.witness_ways.specs.declared.Extremes.{Extremes}
 use Rattle.witness_ways.specs.declared.Both.{Both}
-use Rattle.witness_ways.specs.Extremes.{sat, extremes}
+use Rattle.witness_ways.specs.Extremes.{Extremes, sat, extremes}
 use Rattle.witness_ways.proofs.Theorem.{spends-computed}
-use Rattle.witness_entry.specs.declared.Given.{Given}
 use Rattle.witness_entry.specs.Witness.{work_words, tree_in, Results, refuses, spends, WitnessPromise}
 use Rattle.witness_entry.specs.Memory.{both_in}
-use Rattle.witness_entry.specs.Records.{Filled, given_of, wrong_length, Answered}
+use Rattle.witness_entry.specs.Records.{Filled, Answered, passes, fails, found_by, smallest_by, largest_by}
 
 -- ---- the root
 
@@ -51,94 +54,71 @@ first-long w l = length-take-le 4096 w (omega (arith, l))
 pub joined-long : (w p : List ℕ) → length w ≡ 8192 → length p ≡ 4096 → length (p ++ drop 4096 w) ≡ 8192
 joined-long w p l k = length-append p (drop 4096 w) ∙ omega (arith, l, k, length-drop 4096 w)
 
--- ---- the check
+-- ---- the entry's answers
 
-module _ {context : ℕ} {tree work : List ℕ} {number ty : ℕ} {after : List ℕ} (promise : CheckPromise context tree work number ty after)
-    (room : length work ≡ max_records) where
-  tree-passes : number ≡ 0 → (x : Typed) × (check_of context tree max_records ≡ done x)
-  tree-passes z =
-      let p = passed context tree work promise.gives z in
-      (p.typed, sym (ap (check_of context tree) room) ∙ p.passes)
+no-context : (context : ℕ) → 2 ≤ context → context_of context ≡ None
+no-context context h = rw (ne_eqb context 0 (λ e. omega arith), ne_eqb context 1 (λ e. omega arith))
 
-  pub tree-written : number ≡ 0 → Written tree
-  tree-written z =
-      let p = tree-passes z in
-      record { root = p.0.tree; rows = rows context tree max_records p.0 p.1 }
+some-context : (context : ℕ) → context < 2 → (c : Context) × (context_of context ≡ Some c)
+some-context context h = by-number (eqb context 0) refl
+  where
+    second : context ≡ 1 → (c : Context) × (context_of context ≡ Some c)
+    second e = (Tap, rw e)
 
-  -- the root's extremes are answered
-  pub answered : number ≡ 0 → {c₀ : Context} → ((c : Context) → context_of context ≡ some c → c₀ ≡ c) → {e : Extremes}
-      → ((f : Fragment) → TreeRecords tree f → e ≡ sat (extremes c₀ f)) → {r : Given} → r ≡ given_of e → Answered context tree r
-  answered z {c₀} is {e} root {r} g =
-      let p = tree-passes z in
-      let zero_number : r.number ≡ 0 = ap (λ (r : Given). r.number) g in
-      record {
-        passes = λ s. (
-          p.0,
-          p.1,
-          λ c k. g ∙ ap given_of (root p.0.tree (rows context tree max_records p.0 p.1)
-              ∙ ap (λ (c : Context). sat (extremes c p.0.tree)) (is c k)),
-        );
-        refuses = λ s. absurd (s zero_number);
-      }
-
-  pub answered-refused : (number ≡ 0 → ⊥) → Answered context tree (record { number = number; found = 0; smallest = 0; largest = 0 })
-  answered-refused z =
-      record { passes = λ s. absurd (z s); refuses = λ s. (sym (ap (check_of context tree) room) ∙ refused_as context tree work promise.gives z, refl) }
-
--- ---- what the entry comes to
-
-abbrev Gives : (context : ℕ) → Answer Typed → Given → Type 0
-Gives context t g = Results context t g.number g.found g.smallest g.largest
+    by-number : (b : Bool) → eqb context 0 ≡ b → (c : Context) × (context_of context ≡ Some c)
+    by-number true t =
+        let first = eqb-true context 0 t in
+        (Segwitv0, rw first)
+    by-number false t = second (omega (arith, eqb-false context 0 t))
 
 module _ (context : ℕ) (tree work : List ℕ) where
-  no-context : context_of context ≡ none → check_of context tree max_records ≡ refused bad_context
-  unfolding check_of
-  no-context e = rw e
-
-  module _ (room : length work ≡ work_words) where
-    tree-in : {a : Answer Typed} → check_of context tree max_records ≡ a → tree_in context tree work ≡ a
-    unfolding tree_in
-    tree-in {a} e = by-context (context_of context) refl
-      where
-        by-context : (o : Option Context) → context_of context ≡ o → tree_in context tree work ≡ a
-        by-context (some c) k = rw (k, eq-eqb (length work) work_words room, e)
-        by-context none k = rw k (sym (no-context k) ∙ e)
-
-    has-context : {x : Typed} → check_of context tree max_records ≡ done x → (c : Context) × (context_of context ≡ some c)
-    has-context {x} e = by-context (context_of context) refl
-      where
-        by-context : (o : Option Context) → context_of context ≡ o → (c : Context) × (context_of context ≡ some c)
-        by-context (some c) k = (c, k)
-        by-context none k =
-            let same : ◌≡◌ {A = Answer Typed} (refused bad_context) (done x) = sym (no-context k) ∙ e in
-            absurd (let z : ◌≡◌ {A = ℕ} 0 1 = cc (same) in omega arith)
-
-    results : {r : Given} → Answered context tree r → Results context (tree_in context tree work) r.number r.found r.smallest r.largest
-    results {r} a = by_number (eqb r.number 0) refl
-      where
-        by_number : (b : Bool) → eqb r.number 0 ≡ b → Gives context (tree_in context tree work) r
-        by_number true b =
-            let p = a.passes (eqb-true r.number 0 b) in
-            let k = has-context p.1 in
-            let its : Gives context (done p.0) (given_of (sat (extremes k.0 p.0.tree))) = spends k.1 (spends-computed k.0 p.0.tree) in
-            subst (λ (t : Answer Typed). Gives context t r) (sym (tree-in p.1)) (subst (λ (g : Given). Gives context (done p.0) g) (sym (p.2 k.0 k.1)) its)
-        by_number false b =
-            let p = a.refuses (eqb-false r.number 0 b) in
-            let its : Gives context (refused r.number) (record { number = r.number; found = 0; smallest = 0; largest = 0 }) = refuses r.number in
-            subst (λ (t : Answer Typed). Gives context t r) (sym (tree-in p.0)) (subst (λ (g : Given). Gives context (refused r.number) g) (sym p.1) its)
-
-    pub of_length : {r : Given} (worked : List ℕ) {after : List ℕ} → Answered context tree r → length worked ≡ length work → after ≡ zeroed worked
-        → WitnessPromise context tree work r.number r.found r.smallest r.largest after
-    of_length worked a e c = record { gives = results a; clears = c ∙ ap (λ (n : ℕ). replicate n 0) e }
-
-  wrong-refused : (length work ≡ work_words → ⊥) → tree_in context tree work ≡ refused (wrong_length context)
+  pub of-no-context : 2 ≤ context → Answered context tree work (Err Refusal.BadContext)
   unfolding tree_in
-  wrong-refused h = by-context (context_of context) refl
-    where
-      by-context : (o : Option Context) → context_of context ≡ o → tree_in context tree work ≡ refused (wrong_length context)
-      by-context (some c) k = rw (k, ne_eqb (length work) work_words h)
-      by-context none k = rw k
+  of-no-context h = fails (rw (no-context context h))
 
-  pub of-other-length : {n : ℕ} {after : List ℕ} → (length work ≡ work_words → ⊥) → n ≡ wrong_length context → after ≡ zeroed work
-      → WitnessPromise context tree work n 0 0 0 after
-  of-other-length {n} h e c = record { gives = rw (wrong-refused h, e) (refuses (wrong_length context)); clears = c }
+  pub of-other-length : context < 2 → (length work ≡ work_words → ⊥) → Answered context tree work (Err Refusal.BadWork)
+  unfolding tree_in
+  of-other-length h l =
+      let c = some-context context h in
+      fails (rw (c.1, ne_eqb (length work) work_words l))
+
+  module _ (h : context < 2) (room : length work ≡ work_words) where
+    tree-in : {a : Answer Typed} → check_of context tree (length (take 4096 work)) ≡ a → tree_in context tree work ≡ a
+    unfolding tree_in
+    tree-in {a} e =
+        let c = some-context context h in
+        let half = first-long work room in
+        rw (c.1, eq-eqb (length work) work_words room) (sym (ap (check_of context tree) half) ∙ e)
+
+    pub of-refused : {r : Refusal} → refused (number_of r) ≡ type_only (check_of context tree (length (take 4096 work))) → Answered context tree work (Err r)
+    of-refused e = fails (tree-in (refused-by context tree (take 4096 work) e))
+
+    module _ {t : «Type»} (passed : done t ≡ type_only (check_of context tree (length (take 4096 work)))) where
+      its-tree : Passed context tree (take 4096 work)
+      its-tree = passed-as context tree (take 4096 work) passed
+
+      tree-rows : TreeRecords tree its-tree.typed.tree
+      tree-rows = rows context tree (length (take 4096 work)) its-tree.typed its-tree.passes
+
+      pub tree-written : Written tree
+      tree-written = record { root = its-tree.typed.tree; rows = tree-rows }
+
+      pub of-passed : {c₀ : Context} → ((c : Context) → context_of context ≡ Some c → c₀ ≡ c) → {e : Extremes}
+          → ((f : Fragment) → TreeRecords tree f → e ≡ sat (extremes c₀ f)) → Answered context tree work (Ok e)
+      of-passed {c₀} is root =
+          let p = its-tree in
+          passes p.context-is (tree-in p.passes)
+          (root p.typed.tree tree-rows ∙ ap (λ (c : Context). sat (extremes c p.typed.tree)) (is p.its-context p.context-is))
+
+-- ---- the entry keeps its promise
+
+results : (context : ℕ) (tree work : List ℕ) {r : Result Extremes Refusal} → Answered context tree work r
+    → Results context (tree_in context tree work) (number_in r) (found_by r) (smallest_by r) (largest_by r)
+results context tree work (passes {c} {x} k e s) =
+    rw (e, s) (spends k (spends-computed c x.tree))
+results context tree work (fails {r} e) = rw e (refuses (number_of r))
+
+pub promised : (context : ℕ) (tree work worked : List ℕ) {after : List ℕ} {r : Result Extremes Refusal} → Answered context tree work r
+    → length worked ≡ length work → after ≡ zeroed worked
+    → WitnessPromise context tree work (number_in r) (found_by r) (smallest_by r) (largest_by r) after
+promised context tree work worked a e c = record { gives = results context tree work a; clears = c ∙ ap (λ (n : ℕ). replicate n 0) e }

@@ -3,7 +3,7 @@
 use Prim.Native.Nat.{ℕ, zero, suc, ◌+◌, ◌*◌, ◌≤◌, ◌<◌}
 use mathlib.Core.Bool.{Bool, true, false}
 use mathlib.Core.List.{List}
-use mathlib.Core.Option.{Option, some}
+use Rattle.std.specs.Prelude.{Option, Some}
 use mathlib.Core.Path.{◌≡◌, refl, ap, ◌∙◌}
 use native.Mathlib.Omega.{arith}
 use borrow.Author.Tests.{leb-true, leb-false}
@@ -255,7 +255,7 @@ module _ {tree : List ℕ} {i : ℕ} (row : TreeRecord tree i) where
   own-few : own (fragment_at tree i) ≤ 1291
   own-few =
       let p = row.payload in
-      let head : head_of (fragment_at tree i) ≡ head_with kind (some p) =
+      let head : head_of (fragment_at tree i) ≡ head_with kind (Some p) =
       head_at row ∙ ap (head_with kind) row.fits in
       let is : own (fragment_at tree i) ≡ 107 + (73 * k_of p + length (keys_of p)) = ap own_of head in
       omega (arith, is, few-k, few-keys p (counts (record_at tree i) p row.fits).few)

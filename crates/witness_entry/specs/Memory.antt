@@ -1,19 +1,17 @@
 -- The extremes of records in work memory, two words a record: those of its satisfactions, then those of its dissatisfactions.
-use Rattle.std.specs.Prelude.{ℕ, zero, suc, ◌+◌, ◌*◌, ◌/◌, ◌%◌, ◌≤◌, ◌<◌, List, ◌≡◌, length, get_or, set}
-use Rattle.witness_ways.specs.declared.Extremes.{Extremes}
-use Rattle.witness_ways.specs.declared.Extremes.TheVariants.{NoWay, Bytes}
+use Rattle.std.specs.Prelude.{ℕ, zero, suc, ◌+◌, ◌*◌, ◌/◌, ◌%◌, ◌≤◌, ◌<◌, List, ◌≡◌, length, get_or, set, None, Some}
 use Rattle.witness_ways.specs.declared.Both.{Both}
-use Rattle.witness_ways.specs.Extremes.{ways}
+use Rattle.witness_ways.specs.Extremes.{Extremes, bytes, ways}
 use Rattle.witness_rules.specs.Bounds.{AllBelow, neither, small}
 
 -- a word: 0 where there is no way, else one more than the smallest and 2^32 times the largest
 abbrev pub word_of : Extremes → ℕ
-word_of NoWay = 0
-word_of (Bytes a b) = 1 + (a + b * 4294967296)
+word_of None = 0
+word_of (Some x) = 1 + (x.fewest + x.most * 4294967296)
 
 abbrev pub extremes_in : ℕ → Extremes
-extremes_in zero = NoWay
-extremes_in (suc w) = Bytes (w % 4294967296) (w / 4294967296)
+extremes_in zero = None
+extremes_in (suc w) = bytes (w % 4294967296) (w / 4294967296)
 
 -- those of record i
 unfoldable pub both_in : List ℕ → ℕ → Both

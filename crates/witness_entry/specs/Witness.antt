@@ -1,7 +1,6 @@
 -- What the entry gives: document 02, R-9. A context or work memory that is none of its own, then the tree, are refused as the tree check
 -- does; else whether the tree can be satisfied, and the fewest and the most bytes of a witness that does.
-use Rattle.std.specs.Prelude.{ℕ, cond, List, ◌≡◌, eqb, length}
-use Rattle.std.proofs.Math.Option.{Option, none, some}
+use Rattle.std.specs.Prelude.{ℕ, cond, List, ◌≡◌, eqb, length, Option, None, Some}
 use Rattle.words.specs.Memory.{zeroed}
 use Rattle.contexts.specs.declared.Context.{Context}
 use Rattle.trees.specs.Reading.{Answer, refused, done, ◌>>=◌, or_refuse, max_records}
@@ -13,7 +12,7 @@ abbrev pub work_words : ℕ
 work_words = 8192
 
 abbrev pub work_of : ℕ → Option ℕ
-work_of words = cond (eqb words work_words) (some words) none
+work_of words = cond (eqb words work_words) (Some words) None
 
 -- the tree that the entry reads, or the number of its refusal
 unfoldable pub tree_in : (context : ℕ) → (tree work : List ℕ) → Answer Typed
@@ -25,7 +24,7 @@ tree_in context tree work = do
 -- A refusal has its number and zeros; a tree has number 0 and what a spend of it costs.
 pub data Results (context : ℕ) : Answer Typed → (number found smallest largest : ℕ) → Type 0 where
   refuses : (n : ℕ) → Results context (refused n) n 0 0 0
-  spends : {c : Context} {x : Typed} {found smallest largest : ℕ} → context_of context ≡ some c → Spends c x.tree found smallest largest
+  spends : {c : Context} {x : Typed} {found smallest largest : ℕ} → context_of context ≡ Some c → Spends c x.tree found smallest largest
       → Results context (done x) 0 found smallest largest
 
 -- The entry, given a context, a tree and work memory, leaves a number, three results and work memory.

@@ -1,7 +1,7 @@
 -- A text line by line, and what a line says. Assumes nothing.
 use mathlib.Core.Bool.{Bool, true, false, cond}
 use mathlib.Core.List.{List, [], ◌∷◌}
-use mathlib.Core.Option.{none, some}
+use Rattle.std.specs.Prelude.{None, Some}
 use mathlib.Core.Path.{◌≡◌, refl, sym, ap, subst, ◌∙◌}
 use Prim.Native.Nat.{ℕ, suc, ◌+◌, ◌-◌, ◌<◌, ◌≤◌}
 use native.Mathlib.Omega.{arith}
@@ -10,7 +10,6 @@ use lib.Dec.{eqb}
 use lib.ListN.{length, get_or, take, drop, length-drop, drop_of_length-le}
 use lib.Seq.{drop-cons, drop-drop}
 use Rattle.numerals.specs.Numbers.{decimal}
-use Rattle.witness_lines.specs.declared.Line.TheVariants as Line
 use Rattle.witness_lines.specs.Lines.{index_of, newline, space, on_first, lines_of, part, EndsAt, input, named, with_context, line_of, Reads}
 
 -- ---- where a byte stands first
@@ -91,16 +90,16 @@ module _ (l : List ℕ) (at : ℕ) (e : at ≡ 0 + index_of space (drop 0 l)) wh
   unfolding line_of
   said = ap (λ (n : ℕ). with_context (decimal (take n l)) (drop (n + 1) l)) place
 
-  pub no-context : decimal (take at l) ≡ none → Reads l Line.Other
+  pub no-context : decimal (take at l) ≡ None → Reads l None
   no-context d = record { says = sym (said ∙ rw d); within = omega arith }
 
-  module _ {context : ℕ} (d : decimal (take at l) ≡ some context) where
-    pub no-path : length l - at ≤ 1 → Reads l Line.Other
+  module _ {context : ℕ} (d : decimal (take at l) ≡ Some context) where
+    pub no-path : length l ≤ at + 1 → Reads l None
     no-path h =
-        let ended : drop (at + 1) l ≡ [] = drop_of_length-le l {i = at + 1} (omega arith) in
+        let ended : drop (at + 1) l ≡ [] = drop_of_length-le l {i = at + 1} h in
         record { says = sym (said ∙ rw (d, ended)); within = omega arith }
 
-    pub an-input : 1 < length l - at → Reads l (Line.Input context (at + 1))
+    pub an-input : at + 1 < length l → Reads l (Some (record { context = context; path = at + 1 }))
     an-input h =
         let more : 0 < length (drop (at + 1) l) = omega (arith, length-drop (at + 1) l) in
         record { says = sym (said ∙ rw d (some-path (drop (at + 1) l) more)); within = omega arith }

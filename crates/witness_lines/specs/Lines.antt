@@ -1,8 +1,7 @@
 -- The lines of a list of trees: document 02, R-9, and docs/WITNESS.md. Text is a list of bytes, in ASCII. Assumes nothing.
-use Rattle.std.specs.Prelude.{cond, List, [], ◌∷◌, ◌≡◌, ℕ, suc, ◌+◌, ◌-◌, ◌≤◌, eqb, length, take, drop}
-use Rattle.std.proofs.Math.Option.{Option, none, some}
+use Rattle.std.specs.Prelude.{cond, List, [], ◌∷◌, ◌≡◌, ℕ, suc, ◌+◌, ◌-◌, ◌≤◌, eqb, length, take, drop, Option, None, Some}
 use Rattle.numerals.specs.Numbers.{decimal}
-use Rattle.witness_lines.specs.declared.Line.{Line}
+use Rattle.witness_lines.specs.declared.Listed.{Listed}
 
 abbrev pub newline : ℕ
 newline = 10
@@ -50,17 +49,17 @@ named context [] = other
 named context (b ∷ path) = input context (b ∷ path)
 
 abbrev pub with_context : Option ℕ → (path : List ℕ) → Said
-with_context none path = other
-with_context (some context) path = named context path
+with_context None path = other
+with_context (Some context) path = named context path
 
 -- `CONTEXT PATH`: a decimal number before the first space, and all that follows that space
 unfoldable pub line_of : List ℕ → Said
 line_of l = with_context (decimal (take (index_of space l) l)) (drop (index_of space l + 1) l)
 
 -- what was read of a line
-abbrev pub said_in : List ℕ → Line → Said
-said_in l (Line.Input context path) = input context (drop path l)
-said_in l Line.Other = other
+abbrev pub said_in : List ℕ → Option Listed → Said
+said_in l (Some i) = input i.context (drop i.path l)
+said_in l None = other
 
 -- what the report shows of a line: an input's path, and the whole of a line of another form
 abbrev pub shown_of : List ℕ → Said → List ℕ
@@ -68,13 +67,13 @@ shown_of l (input context path) = path
 shown_of l other = l
 
 -- where that begins
-abbrev pub shown_from : Line → ℕ
-shown_from (Line.Input context path) = path
-shown_from Line.Other = 0
+abbrev pub shown_from : Option Listed → ℕ
+shown_from (Some i) = i.path
+shown_from None = 0
 
-abbrev pub shown_in : List ℕ → Line → List ℕ
+abbrev pub shown_in : List ℕ → Option Listed → List ℕ
 shown_in l r = drop (shown_from r) l
 
-pub record Reads (l : List ℕ) (r : Line) : Type 0 where
+pub record Reads (l : List ℕ) (r : Option Listed) : Type 0 where
   pub says : said_in l r ≡ line_of l
   pub within : shown_from r ≤ length l

@@ -8,18 +8,18 @@ ghost use Rattle.witness_lines.specs.Lines.{index_of, EndsAt, shown_from, Reads}
 ghost use Rattle.witness_lines.specs.Report.{Number, Ending, ReportLine, Row, Rows, Appended, AppendedDigits, Shows};
 
 use itoa::Buffer;
-use numerals::{Number32, decimal};
+use numerals::decimal;
 use witness_tally::{Outcome, Tally};
 
 const NEWLINE: u8 = 10;
 
 const SPACE: u8 = 32;
 
-// What a line of the list says: a context, and where in the line the path begins; or it has another form.
+// A line of the list that names a tree: its context, and where in the line the path begins.
 #[derive(Clone, Copy)]
-pub enum Line {
-    Input(u32, usize),
-    Other,
+pub struct Listed {
+    pub context: u32,
+    pub path: usize,
 }
 
 // Where a byte stands first in a text, from a place on, or where the text ends.
@@ -28,14 +28,12 @@ fn find(text: &[u8], from: usize, sign: u8) -> usize
     ensures place { result ≡ from + index_of sign (drop from text.now) }
     ensures within { result ≤ length text.now }
 {
-    let mut at = from;
-    while at < text.len() {
+    for at in from..text.len() {
         if text[at] == sign {
             return at;
         }
-        at += 1;
     }
-    at
+    text.len()
 }
 
 // Where the line of a text ends that begins at a place.
@@ -46,28 +44,26 @@ pub fn line_end(text: &[u8], at: usize) -> usize
     find(text, at, NEWLINE)
 }
 
-// What a line says.
-pub fn read_line(line: &[u8]) -> Line
+// What a line says, none for one of another form.
+pub fn read_line(line: &[u8]) -> Option<Listed>
     ensures { Reads line.now result }
 {
-    let n = line.len();
     let space = find(line, 0, SPACE);
-    let Number32::Is(context) = decimal(&line[..space]) else {
-        return Line::Other;
-    };
-    if n - space <= 1 {
-        return Line::Other;
+    let context = decimal(&line[..space])?;
+    let path = space + 1;
+    if path < line.len() {
+        return Some(Listed { context, path });
     }
-    Line::Input(context, space + 1)
+    None
 }
 
 // Where the part of a line begins that the report shows.
-pub fn shown_from(said: Line) -> usize
+pub fn shown_from(said: Option<Listed>) -> usize
     ensures { result ≡ shown_from said }
 {
     match said {
-        Line::Input(_, path) => path,
-        Line::Other => 0,
+        Some(input) => input.path,
+        None => 0,
     }
 }
 

@@ -7,10 +7,11 @@ use native.Mathlib.Omega.{arith}
 use lib.ListN.{length, take, drop, length-drop}
 use lib.Seq.{length-take-le, take_all}
 use Rattle.files.specs.Rooms.{Within}
-use Rattle.files.specs.declared.Reading.{Reading}
+use Rattle.files.specs.declared.ReadError.{ReadError}
 use Rattle.witness_entry.specs.Witness.{work_words, WitnessPromise}
 use Rattle.witness_entry.proofs.FewBytes.{few_bytes}
-use Rattle.witness_lines.specs.declared.Line.{Line}
+use Rattle.std.specs.Prelude.{Option, None, Some, Result, Ok}
+use Rattle.witness_lines.specs.declared.Listed.{Listed}
 use Rattle.witness_tally.specs.declared.Outcome.{Outcome}
 use Rattle.witness_lines.specs.Lines.{Said, input, said_in, shown_of, shown_from, shown_in, line_of, Reads}
 use Rattle.witness_lines.specs.Report.{ReportLine, Shows}
@@ -59,7 +60,7 @@ answers-small (read tree few c) =
 -- ---- an input
 
 -- the bytes of a file that was read whole
-pub whole-less : {m n : ℕ} {r : Reading} → Within m r → r ≡ Reading.Whole n → n < m
+pub whole-less : {m n : ℕ} {r : Result ℕ ReadError} → Within m r → r ≡ Ok n → n < m
 whole-less {m} h e = subst (Within m) e h
 
 pub input-read : {context : ℕ} {path : List ℕ} (room : List ℕ) {n : ℕ} {o : Outcome} → n < length room → length room ≡ 65536 → Costs context (take n room) o → Answers (input context path) o
@@ -71,22 +72,22 @@ input-read {context} {path} room {n} less long c = read (take n room) (omega (ar
 rest_of : (line : List ℕ) (from : ℕ) → take (length line - from) (drop from line) ≡ drop from line
 rest_of line from = take_all (length line - from) (drop from line) (omega (arith, length-drop from line))
 
-module _ {line : List ℕ} {r : Line} (reads : Reads line r) where
-  pub within-input : {context path : ℕ} → r ≡ Line.Input context path → path ≤ length line
-  within-input {context} {path} e = subst (λ (x : Line). shown_from x ≤ length line) e reads.within
+module _ {line : List ℕ} {r : Option Listed} (reads : Reads line r) where
+  pub within-input : {i : Listed} → r ≡ Some i → i.path ≤ length line
+  within-input e = subst (λ (x : Option Listed). shown_from x ≤ length line) e reads.within
 
-  pub answered-input : {context path : ℕ} {o : Outcome} → r ≡ Line.Input context path
-      → Answers (input context (take (length line - path) (drop path line))) o → Answers (line_of line) o
-  answered-input {context} {path} {o} e a =
-      subst (λ (x : Said). Answers x o) (ap (input context) (rest_of line path) ∙ ap (said_in line) (sym e) ∙ reads.says) a
+  pub answered-input : {i : Listed} {o : Outcome} → r ≡ Some i
+      → Answers (input i.context (take (length line - i.path) (drop i.path line))) o → Answers (line_of line) o
+  answered-input {i} {o} e a =
+      subst (λ (x : Said). Answers x o) (ap (input i.context) (rest_of line i.path) ∙ ap (said_in line) (sym e) ∙ reads.says) a
 
-  pub answered-other : r ≡ Line.Other → Answers (line_of line) (Outcome.Refused 1)
+  pub answered-other : r ≡ None → Answers (line_of line) (Outcome.Refused 1)
   answered-other e = subst (λ (x : Said). Answers x (Outcome.Refused 1)) (ap (said_in line) (sym e) ∙ reads.says) other-form
 
 -- ---- its line of the report
 
 -- a line that was added to a block stands last in it
-pub line-added : (line : List ℕ) (r : Line) {o : Outcome} {from most used n : ℕ} {out after : List ℕ} → from ≡ shown_from r
+pub line-added : (line : List ℕ) (r : Option Listed) {o : Outcome} {from most used n : ℕ} {out after : List ℕ} → from ≡ shown_from r
     → Shows (ReportLine (take (length line - from) (drop from line)) o) most out used after n → n ≤ length after → {whole : Bool}
     → EndsWith (ReportLine (shown_in line r) o) after (record { used = n; whole = whole })
 line-added line r {o} {from} {most} {used} {n} {out} {after} e s within = record {
@@ -97,11 +98,11 @@ line-added line r {o} {from} {most} {used} {n} {out} {after} e s within = record
   holds = s.appended.holds;
 }
 
-shown-alike : (line : List ℕ) (r : Line) → shown_in line r ≡ shown_of line (said_in line r)
-shown-alike line (Line.Input context path) = refl
-shown-alike line Line.Other = refl
+shown-alike : (line : List ℕ) (r : Option Listed) → shown_in line r ≡ shown_of line (said_in line r)
+shown-alike line (Some i) = refl
+shown-alike line None = refl
 
-pub told : {line out : List ℕ} {r : Line} {o : Outcome} {b : Block} → Reads line r → Answers (line_of line) o
+pub told : {line out : List ℕ} {r : Option Listed} {o : Outcome} {b : Block} → Reads line r → Answers (line_of line) o
     → EndsWith (ReportLine (shown_in line r) o) out b → Tells line out (record { outcome = o; block = b })
 told {line} {out} {r} {o} {b} reads a s = record {
   answers = a;

@@ -11,11 +11,11 @@ ghost use Rattle.witness_lines.specs.Lines.{shown_in, line_of, Reads, input as L
 ghost use Rattle.witness_lines.specs.Report.{ReportLine};
 ghost use Rattle.witness_report.specs.Answers.{Costs, Answers, EndsWith, Reported, Tells, Lent};
 
-use files::{Reading, read_all};
+use files::{ReadError, read_all};
 use std::io;
 use std::rt::Files;
 use witness_entry::claspwillow_witness;
-use witness_lines::{Line, append_line, append_rows, line_end, read_line, shown_from};
+use witness_lines::{Listed, append_line, append_rows, line_end, read_line, shown_from};
 use witness_tally::{Outcome, Tally, counted};
 
 // The numbers of a line of another form, of a file that can't be read and of one that is too long.
@@ -58,33 +58,33 @@ pub struct Ended {
 }
 
 // Reads the file of a path; says so where it can't.
-fn read_text<R: Files + Eprint>(rt: &R, path: &str, room: &mut [u8]) -> Reading
+fn read_text<R: Files + Eprint>(rt: &R, path: &str, room: &mut [u8]) -> Result<usize, ReadError>
     ensures { Within (length room.new) result }
 {
     match files::open(rt, path) {
         Ok(mut source) => {
-            let r = read_all(&mut source, room);
-            if let Reading::Failed(e) = r {
+            let read = read_all(&mut source, room);
+            if let Err(ReadError::Failed(e)) = read {
                 files::fail(rt, path, e);
             }
-            r
+            read
         }
         Err(e) => {
             files::fail(rt, path, e);
-            Reading::Failed(e)
+            Err(ReadError::Failed(e))
         }
     }
 }
 
 // The same of a path in bytes.
-fn read_path<R: Files + Eprint>(rt: &R, path: &[u8], room: &mut [u8]) -> Reading
+fn read_path<R: Files + Eprint>(rt: &R, path: &[u8], room: &mut [u8]) -> Result<usize, ReadError>
     ensures { Within (length room.new) result }
 {
     match files::path_text(path) {
         Ok(text) => read_text(rt, text, room),
         Err(e) => {
             files::fail(rt, "the path", e);
-            Reading::Failed(e)
+            Err(ReadError::Failed(e))
         }
     }
 }
@@ -119,9 +119,9 @@ fn input<R: Files + Eprint>(
     ensures { Answers (Lines·input context path.now) result }
 {
     match read_path(rt, path, room) {
-        Reading::Whole(n) => costs(context, &room[..n], work),
-        Reading::TooLong => Outcome::Refused(TOO_LONG),
-        Reading::Failed(_) => Outcome::Refused(UNREADABLE),
+        Ok(n) => costs(context, &room[..n], work),
+        Err(ReadError::TooLong) => Outcome::Refused(TOO_LONG),
+        Err(ReadError::Failed(_)) => Outcome::Refused(UNREADABLE),
     }
 }
 
@@ -129,7 +129,7 @@ fn input<R: Files + Eprint>(
 fn answer<R: Files + Eprint>(
     rt: &R,
     line: &[u8],
-    said: Line,
+    said: Option<Listed>,
     room: &mut [u8],
     work: &mut [u64],
 ) -> Outcome
@@ -137,8 +137,8 @@ fn answer<R: Files + Eprint>(
     ensures { Answers (line_of line.now) result }
 {
     match said {
-        Line::Input(context, path) => input(rt, context, &line[path..], room, work),
-        Line::Other => Outcome::Refused(OTHER_FORM),
+        Some(listed) => input(rt, listed.context, &line[listed.path..], room, work),
+        None => Outcome::Refused(OTHER_FORM),
     }
 }
 
@@ -174,7 +174,7 @@ fn with_room<R: Print + Eprint>(rt: &R, most: usize, out: &[u8], b: Block) -> Bl
 fn show<R: Print + Eprint>(
     rt: &R,
     line: &[u8],
-    said: Line,
+    said: Option<Listed>,
     o: Outcome,
     out: &mut [u8],
     b: Block,
@@ -239,6 +239,7 @@ fn lines<R: Files + Print + Eprint>(
         used: 0,
         whole: true,
     };
+    // A line begins where the one before it ends.
     let mut at = 0;
     while at < text.len() {
         let end = line_end(text, at);

@@ -1,29 +1,25 @@
 -- Extremes below a bound: of their parts, of sums and of a choice. Assumes nothing.
-use Prim.Native.Nat.{ℕ, ◌+◌, ◌*◌, ◌≤◌, ◌<◌, min, max}
+use Rattle.std.specs.Prelude.{None, Some}
+use Prim.Native.Nat.{ℕ, ◌+◌, ◌*◌, ◌≤◌, ◌<◌}
 use mathlib.Core.Bool.{Bool, true, false, cond}
 use mathlib.Core.Path.{◌≡◌}
 use native.Mathlib.Omega.{arith}
 use lib.Dec.{leb}
 use Rattle.contexts.specs.declared.Context.{Context}
 use Rattle.contexts.specs.declared.Context.TheVariants.{Segwitv0, Tap}
-use Rattle.witness_ways.specs.declared.Extremes.{Extremes}
-use Rattle.witness_ways.specs.declared.Extremes.TheVariants.{NoWay, Bytes}
+use Rattle.witness_ways.specs.declared.Bytes.{Bytes}
 use Rattle.witness_ways.specs.Elements.{signature_bytes, key_bytes}
-use Rattle.witness_ways.specs.Extremes.{◌and◌, ◌or◌, just, some_of}
+use Rattle.witness_ways.specs.Extremes.{Extremes, ◌and◌, ◌or◌, just, some_of}
 use Rattle.witness_rules.specs.Bounds.{Below, none, both, small, large}
 
 -- ---- the parts
 
-pub both-parts : {bound : ℕ} {e : Extremes} {a b : ℕ} → Below bound e → e ≡ Bytes a b → (a ≤ bound) × (b ≤ bound)
-both-parts none e = absurd (let z : ◌≡◌ {A = ℕ} 0 1 = cc in omega arith)
-both-parts {a = c} {b = d} (both {smallest = a} {largest = b} h k) e =
-    let p : a ≡ c = cc in
-    let q : b ≡ d = cc in
-    omega arith
+pub both-parts : {bound : ℕ} {x : Bytes} → Below bound (Some x) → (x.fewest ≤ bound) × (x.most ≤ bound)
+both-parts (both h k) = (h, k)
 
 pub looser : {m n : ℕ} {e : Extremes} → m ≤ n → Below m e → Below n e
 looser l none = none
-looser l (both {smallest = a} {largest = b} h k) = both {smallest = a} {largest = b} (omega arith) (omega arith)
+looser l (both h k) = both (omega arith) (omega arith)
 
 pub loose : {e : Extremes} → Below small e → Below large e
 loose h = looser (omega arith) h
@@ -33,14 +29,12 @@ loose h = looser (omega arith) h
 pub below-and : {m n : ℕ} {x y : Extremes} → Below m x → Below n y → Below (m + n) (x and y)
 below-and none k = none
 below-and (both h₁ h₂) none = none
-below-and (both {smallest = a} {largest = b} h₁ h₂) (both {smallest = c} {largest = d} k₁ k₂) =
-    both {smallest = a + c} {largest = b + d} (omega arith) (omega arith)
+below-and (both h₁ h₂) (both k₁ k₂) = both (omega arith) (omega arith)
 
 pub below_or : {m : ℕ} {x y : Extremes} → Below m x → Below m y → Below m (x or y)
 below_or none k = k
 below_or (both h₁ h₂) none = both h₁ h₂
-below_or (both {smallest = a} {largest = b} h₁ h₂) (both {smallest = c} {largest = d} k₁ k₂) =
-    both {smallest = min a c} {largest = max b d} (omega arith) (omega arith)
+below_or (both h₁ h₂) (both k₁ k₂) = both (omega arith) (omega arith)
 
 -- ---- elements
 
@@ -60,7 +54,7 @@ signatures-few Tap h e = rw e (omega arith)
 pub below-some : (k n : ℕ) {bytes bound : ℕ} → bytes ≤ bound → Below bound (some_of k n bytes)
 below-some k n {bytes} {bound} h = by-test (leb k n)
   where
-    by-test : (b : Bool) → Below bound (cond b (just bytes) NoWay)
+    by-test : (b : Bool) → Below bound (cond b (just bytes) None)
     by-test true = both h h
     by-test false = none
 

@@ -1,17 +1,16 @@
 -- The extremes by how many of a threshold's children are satisfied, one child at a time. Assumes nothing.
+use Rattle.std.specs.Prelude.{None}
 use Prim.Native.Nat.{ℕ, zero, suc, ◌+◌, ◌*◌, ◌-◌, ◌≤◌, ◌<◌}
 use mathlib.Core.Bool.{Bool, true, false}
 use mathlib.Core.List.{List, [], ◌∷◌}
 use mathlib.Core.Path.{◌≡◌, refl, sym, ap, ◌∙◌}
 use native.Mathlib.Omega.{arith}
-use borrow.Author.Tests.{eqb-true, eqb-false, ltb-true, ltb-false}
-use lib.Dec.{eqb, ltb}
-use lib.ListN.{length, get_or, set, take, drop, replicate, length-set, length-drop, get_or-replicate, drop_of_length-le, get_or-eq_default}
-use lib.Seq.{get_or-set_same, get_or-set_other, length-take-le, drop-cons, get_or-take, get_or-drop}
-use Rattle.witness_ways.specs.declared.Extremes.{Extremes}
-use Rattle.witness_ways.specs.declared.Extremes.TheVariants.{NoWay}
+use borrow.Author.Tests.{ltb-true, ltb-false}
+use lib.Dec.{ltb}
+use lib.ListN.{length, get_or, take, drop, replicate, length-drop, get_or-replicate, drop_of_length-le, get_or-eq_default}
+use lib.Seq.{length-take-le, drop-cons, get_or-take, get_or-drop}
 use Rattle.witness_ways.specs.declared.Both.{Both}
-use Rattle.witness_ways.specs.Extremes.{◌and◌, ◌or◌, sat, dissat, just}
+use Rattle.witness_ways.specs.Extremes.{Extremes, just}
 use Rattle.witness_rules.specs.Bounds.{Below, none, neither, AllBelow, RowBelow, small}
 use Rattle.witness_rules.specs.ByKind.{counts, count_in, one_more_at, Counted}
 use Rattle.witness_rules.proofs.Bounds.{looser, below-and, below_or, just-below}
@@ -24,60 +23,16 @@ pub record CountingOn (x : Both) (row out : List Extremes) (j : ℕ) : Type 0 wh
   pub later : 1 ≤ j
   pub each : (m : ℕ) → m < j → count_in out m ≡ one_more_at x row m
 
-pub counting-start : (x : Both) (row : List Extremes) {v : Extremes} → length row ≡ 17 → v ≡ (count_in row 0 and dissat x)
-    → CountingOn x row (set row 0 v) 1
-counting-start x row {v} l e =
-    record {
-      long = length-set row 0 v ∙ l;
-      upto = omega arith;
-      later = omega arith;
-      each = each;
-    }
-  where
-    each : (m : ℕ) → m < 1 → count_in (set row 0 v) m ≡ one_more_at x row m
-    each zero h = get_or-set_same row 0 v NoWay (omega (arith, l)) ∙ e
-    each (suc m) h = absurd (omega arith)
-
-module _ (x : Both) (row : List Extremes) {out : List Extremes} {j : ℕ} (on : CountingOn x row out j) where
-  at-later : (j : ℕ) → 1 ≤ j → ((count_in row (j - 1) and sat x) or (count_in row j and dissat x)) ≡ one_more_at x row j
-  at-later zero h = absurd (omega arith)
-  at-later (suc j) h =
-      let same : suc j - 1 ≡ j = omega arith in
-      rw same
-
-  pub counting_more : {fewer same v : Extremes} → j < 17 → fewer ≡ count_in row (j - 1) → same ≡ count_in row j
-      → v ≡ ((fewer and sat x) or (same and dissat x)) → CountingOn x row (set out j v) (j + 1)
-  counting_more {v} l f s e =
-      record {
-        long = length-set out j v ∙ on.long;
-        upto = omega arith;
-        later = omega arith;
-        each = λ m h. by_place m (eqb m j) refl h;
-      }
-    where
-      here : v ≡ one_more_at x row j
-      here = e ∙ rw (f, s) (at-later j on.later)
-
-      by_place : (m : ℕ) (b : Bool) → eqb m j ≡ b → m < j + 1 → count_in (set out j v) m ≡ one_more_at x row m
-      by_place m true t h =
-          let p = eqb-true m j t in
-          rw p (get_or-set_same out j v NoWay (omega (arith, on.long)) ∙ here)
-      by_place m false t h =
-          get_or-set_other out j m v NoWay (eqb-false m j t) ∙ on.each m (omega (arith, eqb-false m j t))
-
-  pub counting-end : 17 ≤ j → Counted (one_more_at x row) out
-  counting-end h = record { long = on.long; each = λ m l. on.each m (omega arith) }
-
 -- ---- all children, from the last to the first
 
 -- without children
-none-counted : Counted (counts []) (just 0 ∷ replicate 16 NoWay)
+none-counted : Counted (counts []) (just 0 ∷ replicate 16 None)
 unfolding counts
 none-counted = record { long = refl; each = each }
   where
-    each : (j : ℕ) → j < 17 → count_in (just 0 ∷ replicate 16 NoWay) j ≡ counts [] j
+    each : (j : ℕ) → j < 17 → count_in (just 0 ∷ replicate 16 None) j ≡ counts [] j
     each zero h = refl
-    each (suc j) h = get_or-replicate 16 j NoWay NoWay (omega arith)
+    each (suc j) h = get_or-replicate 16 j None None (omega arith)
 
 -- a child's extremes are small, so those by count are below sixteen times as much
 counts-below : (xs : List Both) → AllBelow small xs → (j : ℕ) → Below (length xs * small) (counts xs j)
@@ -92,7 +47,7 @@ counts-below (x ∷ xs) h (suc j) =
     (below_or (below-and (counts-below xs rest j) its.satisfied) (below-and (counts-below xs rest (suc j)) its.dissatisfied))
 
 -- more cannot be satisfied than there are
-counts-over : (xs : List Both) (k : ℕ) → length xs < k → counts xs k ≡ NoWay
+counts-over : (xs : List Both) (k : ℕ) → length xs < k → counts xs k ≡ None
 unfolding counts
 counts-over [] zero h = absurd (omega arith)
 counts-over [] (suc k) h = refl
@@ -112,7 +67,7 @@ counted-at xs row few r k = by-test (ltb k 17) refl
     by-test true t = r.each k (ltb-true k 17 t)
     by-test false t =
         let over = ltb-false k 17 t in
-        get_or-eq_default row NoWay (omega (arith, r.long)) ∙ sym (counts-over xs k (omega arith))
+        get_or-eq_default row None (omega (arith, r.long)) ∙ sym (counts-over xs k (omega arith))
 
 -- the row, once the children from i on, of the first n, are counted
 pub record CountedFrom (n : ℕ) (children : List Both) (row : List Extremes) (i : ℕ) : Type 0 where
@@ -137,7 +92,7 @@ module _ (n : ℕ) (children : List Both) (few : n ≤ 16) (long : length childr
       get_or-drop i (take n children) j neither ∙ get_or-take n children (i + j) neither inside in
       rw same (h (i + j) (omega arith))
 
-  pub from-none : CountedFrom n children (just 0 ∷ replicate 16 NoWay) n
+  pub from-none : CountedFrom n children (just 0 ∷ replicate 16 None) n
   from-none =
       record {
         is =

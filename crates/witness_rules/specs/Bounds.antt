@@ -1,9 +1,8 @@
 -- Bounds on extremes, so that no sum wraps.
-use Rattle.std.specs.Prelude.{ℕ, ◌^◌, ◌≤◌, ◌<◌, List, length, get_or}
-use Rattle.witness_ways.specs.declared.Extremes.{Extremes}
-use Rattle.witness_ways.specs.declared.Extremes.TheVariants.{NoWay, Bytes}
+use Rattle.std.specs.Prelude.{ℕ, ◌^◌, ◌≤◌, ◌<◌, List, length, get_or, None, Some}
+use Rattle.witness_ways.specs.declared.Bytes.{Bytes}
 use Rattle.witness_ways.specs.declared.Both.{Both}
-use Rattle.witness_ways.specs.Extremes.{ways}
+use Rattle.witness_ways.specs.Extremes.{Extremes, ways}
 
 -- what a word has room for twice; sixteen of them, with any two of those to be added, are below the other
 abbrev pub small : ℕ
@@ -14,8 +13,8 @@ large = 2 ^ 62
 
 -- no way has more bytes
 pub data Below (bound : ℕ) : Extremes → Type 0 where
-  none : Below bound NoWay
-  both : {smallest largest : ℕ} → smallest ≤ bound → largest ≤ bound → Below bound (Bytes smallest largest)
+  none : Below bound None
+  both : {x : Bytes} → x.fewest ≤ bound → x.most ≤ bound → Below bound (Some x)
 
 pub record BothBelow (bound : ℕ) (x : Both) : Type 0 where
   pub satisfied : Below bound x.satisfied
@@ -23,11 +22,11 @@ pub record BothBelow (bound : ℕ) (x : Both) : Type 0 where
 
 -- what stands for a child that is not there
 abbrev pub neither : Both
-neither = ways NoWay NoWay
+neither = ways None None
 
 abbrev pub AllBelow : (bound : ℕ) → List Both → Type 0
 AllBelow bound xs = (j : ℕ) → j < length xs → BothBelow bound (get_or xs j neither)
 
 -- the extremes by count can be added to
 abbrev pub RowBelow : List Extremes → Type 0
-RowBelow row = (j : ℕ) → j < 17 → Below large (get_or row j NoWay)
+RowBelow row = (j : ℕ) → j < 17 → Below large (get_or row j None)

@@ -1,21 +1,18 @@
 -- The extremes of a record's fragment by its kind, from its k, the number of its children or keys, and its children's extremes: document
 -- 01, "Records", and `witness_ways`, specs/Extremes.antt. proofs/ByKind.antt shows that these are the extremes of the fragment.
-use Rattle.std.specs.Prelude.{ℕ, ◌<◌, cond, List, [], ◌∷◌, ◌≡◌, eqb, length, get_or, take}
-use Rattle.std.proofs.Math.Option.{Option, none, some}
+use Rattle.std.specs.Prelude.{ℕ, ◌<◌, cond, List, [], ◌∷◌, ◌≡◌, eqb, length, get_or, take, Option, None, Some}
 use Rattle.records.specs.Numbers.{between}
 use Rattle.contexts.specs.declared.Context.{Context}
 use Rattle.trees.specs.Tree.{◌is◌, find}
 use Rattle.witness_ways.specs.declared.Both.{Both}
-use Rattle.witness_ways.specs.declared.Extremes.{Extremes}
-use Rattle.witness_ways.specs.declared.Extremes.TheVariants.{NoWay}
-use Rattle.witness_ways.specs.Extremes.{ways, ByCount, no_child, one_more}
+use Rattle.witness_ways.specs.Extremes.{Extremes, ways, ByCount, no_child, one_more}
 use Rattle.witness_ways.specs.Extremes.{false_ways, true_ways, hash_ways, pk_k_ways, pk_h_ways, multi_ways, multi_a_ways, dup_if_ways, verify_ways, non_zero_ways}
 use Rattle.witness_ways.specs.Extremes.{and_b_ways, and_v_ways, or_b_ways, or_c_ways, or_d_ways, or_i_ways, and_or_ways}
 use Rattle.witness_rules.specs.Bounds.{neither}
 
 abbrev pub or_else : {A : Type 0} → A → Option A → A
-or_else a (some x) = x
-or_else a none = a
+or_else a (Some x) = x
+or_else a None = a
 
 -- a leaf: those that are not named are True and the locks
 abbrev pub leaf_of : Context → (kind k n : ℕ) → Both
@@ -56,7 +53,7 @@ ways_of c kind k n xs =
 -- ---- the extremes by count in a row of 17, for counts from 0 to 16
 
 abbrev pub count_in : List Extremes → ByCount
-count_in row j = get_or row j NoWay
+count_in row j = get_or row j None
 
 -- once one child more is counted
 abbrev pub one_more_at : Both → List Extremes → ByCount

@@ -2,7 +2,7 @@
 //
 // Contracts cite `witness_ways`, specs/Extremes.antt (each row), and specs/ByKind.antt (which row a record's kind has). Nothing here reads
 // memory: extremes come and go by value.
-#![tactic(auto)]
+#![tactic(auto, using(crate::proofs::Bounds::loose))]
 
 ghost use Rattle.std.specs.Prelude.{◌≡◌, ◌-◌, ◌≤◌, ◌<◌, min, max, take};
 ghost use Rattle.witness_ways.specs.Elements.{signature_bytes, key_bytes};
@@ -12,46 +12,38 @@ ghost use Rattle.witness_rules.specs.Bounds.{Below, BothBelow, AllBelow, RowBelo
 ghost use Rattle.witness_rules.specs.ByKind.{leaf_of, cast_of, pair_of, thresh_ways, ways_of, count_in, one_more_at, Counted};
 
 use contexts::Context;
-use witness_ways::{Both, Extremes};
+use witness_ways::{Both, Bytes};
 
-// The lesser of two.
-fn lesser(a: u64, b: u64) -> u64
-    ensures { result ≡ min a b }
+// Ways that all have so many bytes.
+fn just(n: u64) -> Option<Bytes>
+    ensures { result ≡ just n }
 {
-    if a < b { a } else { b }
-}
-
-// The greater of two.
-fn greater(a: u64, b: u64) -> u64
-    ensures { result ≡ max a b }
-{
-    if a < b { b } else { a }
+    Some(Bytes { fewest: n, most: n })
 }
 
 // A way of each.
-fn and(x: Extremes, y: Extremes) -> Extremes
+fn and(x: Option<Bytes>, y: Option<Bytes>) -> Option<Bytes>
     requires { Below large x × Below large y }
     ensures { result ≡ x and y }
 {
-    match x {
-        Extremes::NoWay => Extremes::NoWay,
-        Extremes::Bytes(a, b) => match y {
-            Extremes::NoWay => Extremes::NoWay,
-            Extremes::Bytes(c, d) => Extremes::Bytes(a + c, b + d),
-        },
-    }
+    let x = x?;
+    let y = y?;
+    Some(Bytes {
+        fewest: x.fewest + y.fewest,
+        most: x.most + y.most,
+    })
 }
 
 // A way of either.
-fn or(x: Extremes, y: Extremes) -> Extremes
+fn or(x: Option<Bytes>, y: Option<Bytes>) -> Option<Bytes>
     ensures { result ≡ x or y }
 {
-    match x {
-        Extremes::NoWay => y,
-        Extremes::Bytes(a, b) => match y {
-            Extremes::NoWay => x,
-            Extremes::Bytes(c, d) => Extremes::Bytes(lesser(a, c), greater(b, d)),
-        },
+    match (x, y) {
+        (Some(a), Some(b)) => Some(Bytes {
+            fewest: a.fewest.min(b.fewest),
+            most: a.most.max(b.most),
+        }),
+        _ => x.or(y),
     }
 }
 
@@ -80,8 +72,8 @@ fn of_false() -> Both
     ensures { result ≡ false_ways }
 {
     Both {
-        satisfied: Extremes::NoWay,
-        dissatisfied: Extremes::Bytes(0, 0),
+        satisfied: None,
+        dissatisfied: just(0),
     }
 }
 
@@ -90,8 +82,8 @@ fn of_true() -> Both
     ensures { result ≡ true_ways }
 {
     Both {
-        satisfied: Extremes::Bytes(0, 0),
-        dissatisfied: Extremes::NoWay,
+        satisfied: just(0),
+        dissatisfied: None,
     }
 }
 
@@ -100,8 +92,8 @@ fn hash() -> Both
     ensures { result ≡ hash_ways }
 {
     Both {
-        satisfied: Extremes::Bytes(33, 33),
-        dissatisfied: Extremes::NoWay,
+        satisfied: just(33),
+        dissatisfied: None,
     }
 }
 
@@ -109,10 +101,9 @@ fn hash() -> Both
 fn pk_k(context: Context) -> Both
     ensures { result ≡ pk_k_ways context }
 {
-    let signature = signature_bytes(context);
     Both {
-        satisfied: Extremes::Bytes(signature, signature),
-        dissatisfied: Extremes::Bytes(1, 1),
+        satisfied: just(signature_bytes(context)),
+        dissatisfied: just(1),
     }
 }
 
@@ -121,30 +112,17 @@ fn pk_h(context: Context) -> Both
     ensures { result ≡ pk_h_ways context }
 {
     let key = key_bytes(context);
-    let both = signature_bytes(context) + key;
-    let empty = 1 + key;
     Both {
-        satisfied: Extremes::Bytes(both, both),
-        dissatisfied: Extremes::Bytes(empty, empty),
+        satisfied: just(signature_bytes(context) + key),
+        dissatisfied: just(1 + key),
     }
 }
 
 // The way of k of n keys that sign, with so many bytes.
-fn some_of(k: u64, n: u64, bytes: u64) -> Extremes
+fn some_of(k: u64, n: u64, bytes: u64) -> Option<Bytes>
     ensures { result ≡ some_of k n bytes }
 {
-    if k <= n {
-        Extremes::Bytes(bytes, bytes)
-    } else {
-        Extremes::NoWay
-    }
-}
-
-// How many of n are not among k.
-fn others(k: u64, n: u64) -> u64
-    ensures { result ≡ n - k }
-{
-    if k < n { n - k } else { 0 }
+    if k <= n { just(bytes) } else { None }
 }
 
 // Multi, k of n keys.
@@ -153,11 +131,9 @@ fn multi(context: Context, k: u64, n: u64) -> Both
     ensures { result ≡ multi_ways context k n }
 {
     let signatures = k * signature_bytes(context);
-    let signed = some_of(k, n, signatures);
-    let empty = 1 + k;
     Both {
-        satisfied: and(Extremes::Bytes(1, 1), signed),
-        dissatisfied: Extremes::Bytes(empty, empty),
+        satisfied: and(just(1), some_of(k, n, signatures)),
+        dissatisfied: just(1 + k),
     }
 }
 
@@ -168,24 +144,23 @@ fn multi_a(context: Context, k: u64, n: u64) -> Both
 {
     let signatures = k * signature_bytes(context);
     Both {
-        satisfied: some_of(k, n, signatures + others(k, n)),
-        dissatisfied: Extremes::Bytes(n, n),
+        satisfied: some_of(k, n, signatures + n.saturating_sub(k)),
+        dissatisfied: just(n),
     }
 }
 
 // A leaf of this kind.
+#[tactic(auto, unfolding(trees::specs::Tree::find))]
 fn leaf(context: Context, kind: u16, k: u64, n: u64) -> Both
     requires { (k < 65536) × (n < 65536) }
     ensures { result ≡ leaf_of context kind k n }
 {
+    // A kind stays a number: a record or a node holds one, and the contract answers on every number.
     match kind {
         32 => of_false(),
         34 => pk_k(context),
         35 => pk_h(context),
-        38 => hash(),
-        39 => hash(),
-        40 => hash(),
-        41 => hash(),
+        38..=41 => hash(),
         57 => multi(context, k, n),
         58 => multi_a(context, k, n),
         _ => of_true(),
@@ -193,23 +168,24 @@ fn leaf(context: Context, kind: u16, k: u64, n: u64) -> Both
 }
 
 // A wrapper of this kind.
+#[tactic(auto, unfolding(trees::specs::Tree::find))]
 fn cast(kind: u16, x: Both) -> Both
     requires { BothBelow small x }
     ensures { result ≡ cast_of kind x }
 {
-    let satisfied = x.satisfied;
+    // A kind stays a number: a record or a node holds one, and the contract answers on every number.
     match kind {
         45 => Both {
-            satisfied: and(satisfied, Extremes::Bytes(2, 2)),
-            dissatisfied: Extremes::Bytes(1, 1),
+            satisfied: and(x.satisfied, just(2)),
+            dissatisfied: just(1),
         },
         46 => Both {
-            satisfied,
-            dissatisfied: Extremes::NoWay,
+            satisfied: x.satisfied,
+            dissatisfied: None,
         },
         47 => Both {
-            satisfied,
-            dissatisfied: Extremes::Bytes(1, 1),
+            satisfied: x.satisfied,
+            dissatisfied: just(1),
         },
         _ => x,
     }
@@ -220,13 +196,9 @@ fn and_b(x: Both, y: Both) -> Both
     requires { BothBelow small x × BothBelow small y }
     ensures { result ≡ and_b_ways x y }
 {
-    let xs = x.satisfied;
-    let xd = x.dissatisfied;
-    let ys = y.satisfied;
-    let yd = y.dissatisfied;
     Both {
-        satisfied: and(ys, xs),
-        dissatisfied: and(yd, xd),
+        satisfied: and(y.satisfied, x.satisfied),
+        dissatisfied: and(y.dissatisfied, x.dissatisfied),
     }
 }
 
@@ -235,11 +207,9 @@ fn and_v(x: Both, y: Both) -> Both
     requires { BothBelow small x × BothBelow small y }
     ensures { result ≡ and_v_ways x y }
 {
-    let xs = x.satisfied;
-    let ys = y.satisfied;
     Both {
-        satisfied: and(ys, xs),
-        dissatisfied: Extremes::NoWay,
+        satisfied: and(y.satisfied, x.satisfied),
+        dissatisfied: None,
     }
 }
 
@@ -248,25 +218,21 @@ fn or_b(x: Both, z: Both) -> Both
     requires { BothBelow small x × BothBelow small z }
     ensures { result ≡ or_b_ways x z }
 {
-    let xs = x.satisfied;
-    let xd = x.dissatisfied;
-    let zs = z.satisfied;
-    let zd = z.dissatisfied;
     Both {
-        satisfied: or(and(zd, xs), and(zs, xd)),
-        dissatisfied: and(zd, xd),
+        satisfied: or(
+            and(z.dissatisfied, x.satisfied),
+            and(z.satisfied, x.dissatisfied),
+        ),
+        dissatisfied: and(z.dissatisfied, x.dissatisfied),
     }
 }
 
 // The first satisfied, or else the second.
-fn or_else(x: Both, z: Both) -> Extremes
+fn or_else(x: Both, z: Both) -> Option<Bytes>
     requires { BothBelow small x × BothBelow small z }
     ensures { result ≡ (x.satisfied or (z.satisfied and x.dissatisfied)) }
 {
-    let xs = x.satisfied;
-    let xd = x.dissatisfied;
-    let zs = z.satisfied;
-    or(xs, and(zs, xd))
+    or(x.satisfied, and(z.satisfied, x.dissatisfied))
 }
 
 // OrC: it has no dissatisfaction.
@@ -276,7 +242,7 @@ fn or_c(x: Both, z: Both) -> Both
 {
     Both {
         satisfied: or_else(x, z),
-        dissatisfied: Extremes::NoWay,
+        dissatisfied: None,
     }
 }
 
@@ -285,20 +251,18 @@ fn or_d(x: Both, z: Both) -> Both
     requires { BothBelow small x × BothBelow small z }
     ensures { result ≡ or_d_ways x z }
 {
-    let xd = x.dissatisfied;
-    let zd = z.dissatisfied;
     Both {
         satisfied: or_else(x, z),
-        dissatisfied: and(zd, xd),
+        dissatisfied: and(z.dissatisfied, x.dissatisfied),
     }
 }
 
 // One of two branches, with the element that chooses it.
-fn branch(x: Extremes, z: Extremes) -> Extremes
+fn branch(x: Option<Bytes>, z: Option<Bytes>) -> Option<Bytes>
     requires { Below small x × Below small z }
     ensures { result ≡ ((x and just 2) or (z and just 1)) }
 {
-    or(and(x, Extremes::Bytes(2, 2)), and(z, Extremes::Bytes(1, 1)))
+    or(and(x, just(2)), and(z, just(1)))
 }
 
 // OrI: either branch.
@@ -306,21 +270,19 @@ fn or_i(x: Both, z: Both) -> Both
     requires { BothBelow small x × BothBelow small z }
     ensures { result ≡ or_i_ways x z }
 {
-    let xs = x.satisfied;
-    let xd = x.dissatisfied;
-    let zs = z.satisfied;
-    let zd = z.dissatisfied;
     Both {
-        satisfied: branch(xs, zs),
-        dissatisfied: branch(xd, zd),
+        satisfied: branch(x.satisfied, z.satisfied),
+        dissatisfied: branch(x.dissatisfied, z.dissatisfied),
     }
 }
 
 // A fragment of this kind with two children.
+#[tactic(auto, unfolding(trees::specs::Tree::find))]
 fn pair(kind: u16, x: Both, y: Both) -> Both
     requires { BothBelow small x × BothBelow small y }
     ensures { result ≡ pair_of kind x y }
 {
+    // A kind stays a number: a record or a node holds one, and the contract answers on every number.
     match kind {
         49 => and_b(x, y),
         50 => and_v(x, y),
@@ -336,54 +298,44 @@ fn and_or(x: Both, y: Both, z: Both) -> Both
     requires { BothBelow small x × BothBelow small y × BothBelow small z }
     ensures { result ≡ and_or_ways x y z }
 {
-    let xs = x.satisfied;
-    let xd = x.dissatisfied;
-    let ys = y.satisfied;
-    let zs = z.satisfied;
-    let zd = z.dissatisfied;
     Both {
-        satisfied: or(and(ys, xs), and(zs, xd)),
-        dissatisfied: and(zd, xd),
+        satisfied: or(
+            and(y.satisfied, x.satisfied),
+            and(z.satisfied, x.dissatisfied),
+        ),
+        dissatisfied: and(z.dissatisfied, x.dissatisfied),
     }
 }
 
 // So many satisfied once a child more is counted: from one fewer with it satisfied, or from as many with it dissatisfied.
-fn one_more(x: Both, fewer: Extremes, same: Extremes) -> Extremes
+fn one_more(x: Both, fewer: Option<Bytes>, same: Option<Bytes>) -> Option<Bytes>
     requires { BothBelow small x × Below large fewer × Below large same }
     ensures { result ≡ ((fewer and x.satisfied) or (same and x.dissatisfied)) }
 {
-    let satisfied = x.satisfied;
-    let dissatisfied = x.dissatisfied;
-    or(and(fewer, satisfied), and(same, dissatisfied))
+    or(and(fewer, x.satisfied), and(same, x.dissatisfied))
 }
 
 // The extremes by how many children are satisfied, from 0 to 16, once a child more is counted.
-fn count_child(row: [Extremes; 17], x: Both) -> [Extremes; 17]
+fn count_child(row: [Option<Bytes>; 17], x: Both) -> [Option<Bytes>; 17]
     requires { BothBelow small x × RowBelow row }
     ensures { Counted (one_more_at x row) result }
 {
     let mut out = row;
-    let dissatisfied = x.dissatisfied;
-    let none = row[0];
-    out[0] = and(none, dissatisfied);
-    let mut j = 1;
-    while j < 17 {
-        let fewer = row[j - 1];
-        let same = row[j];
-        out[j] = one_more(x, fewer, same);
-        j += 1;
+    out[0] = and(row[0], x.dissatisfied);
+    for j in 1..17 {
+        out[j] = one_more(x, row[j - 1], row[j]);
     }
     out
 }
 
 // Those of k satisfied.
-fn count_at(row: [Extremes; 17], k: usize) -> Extremes
+fn count_at(row: [Option<Bytes>; 17], k: usize) -> Option<Bytes>
     ensures { result ≡ count_in row k }
 {
     if k < 17 {
         return row[k];
     }
-    Extremes::NoWay
+    None
 }
 
 // Thresh, k of the first n children: they are counted from the last to the first.
@@ -391,13 +343,10 @@ fn threshold(k: usize, n: usize, children: [Both; 16]) -> Both
     requires { (n ≤ 16) × AllBelow small children }
     ensures { result ≡ thresh_ways k (take n children) }
 {
-    let mut row = [Extremes::NoWay; 17];
-    row[0] = Extremes::Bytes(0, 0);
-    let mut i = n;
-    while 0 < i {
-        i -= 1;
-        let x = children[i];
-        row = count_child(row, x);
+    let mut row = [None; 17];
+    row[0] = just(0);
+    for i in (0..n).rev() {
+        row = count_child(row, children[i]);
     }
     Both {
         satisfied: count_at(row, k),
@@ -410,22 +359,11 @@ pub fn ways_of(context: Context, kind: u16, k: u16, n: usize, children: [Both; 1
     requires { (n ≤ 16) × AllBelow small children }
     ensures { result ≡ ways_of context kind k n children }
 {
+    // A kind stays a number: a record or a node holds one, and the contract answers on every number.
     match kind {
-        42..=48 => {
-            let x = children[0];
-            cast(kind, x)
-        }
-        49..=54 => {
-            let x = children[0];
-            let y = children[1];
-            pair(kind, x, y)
-        }
-        55 => {
-            let x = children[0];
-            let y = children[1];
-            let z = children[2];
-            and_or(x, y, z)
-        }
+        42..=48 => cast(kind, children[0]),
+        49..=54 => pair(kind, children[0], children[1]),
+        55 => and_or(children[0], children[1], children[2]),
         56 => threshold(k as usize, n, children),
         _ => leaf(context, kind, k as u64, n as u64),
     }

@@ -1,4 +1,5 @@
 -- The signatures of k of some keys: what they weigh, and that there are such exactly if there are k keys. Assumes nothing.
+use Rattle.std.specs.Prelude.{None}
 use Prim.Native.Nat.{ℕ, zero, suc, ◌+◌, ◌*◌, ◌-◌, ◌≤◌}
 use mathlib.Core.Bool.{Bool, true, false, cond}
 use mathlib.Core.List.{List, [], ◌∷◌, ◌++◌}
@@ -9,7 +10,6 @@ use lib.Dec.{leb}
 use lib.ListN.{length, replicate}
 use Rattle.contexts.specs.declared.Context.{Context}
 use Rattle.contexts.specs.Lists.{sum}
-use Rattle.witness_ways.specs.declared.Extremes.TheVariants.{NoWay}
 use Rattle.witness_ways.specs.Elements.{Witness, signature_bytes, signature, empty, bytes_of}
 use Rattle.witness_ways.specs.Ways.{Picked, all-picked, pick, pass, Placed, all_placed, signed, unsigned}
 use Rattle.witness_ways.specs.Spends.{Met}
@@ -23,7 +23,7 @@ module _ {c : Context} {way : Witness → Type 0} where
       → Spans c way (some_of k n bytes)
   same-spans k n bytes there few weighs = by-test (leb k n) refl
     where
-      by-test : (b : Bool) → leb k n ≡ b → Spans c way (cond b (just bytes) NoWay)
+      by-test : (b : Bool) → leb k n ≡ b → Spans c way (cond b (just bytes) None)
       by-test false t = no_way (λ w p. omega (arith, few w p, leb-false k n t))
       by-test true t =
           let it = there (leb-true k n t) in

@@ -9,10 +9,9 @@ use borrow.Author.Tests.{leb-true, leb-false}
 use lib.Dec.{leb}
 use Rattle.contexts.specs.declared.Context.{Context}
 use Rattle.contexts.specs.Lists.{sum}
-use Rattle.witness_ways.specs.declared.Extremes.{Extremes}
 use Rattle.witness_ways.specs.Elements.{Witness, bytes_of}
 use Rattle.witness_ways.specs.Spends.{Met}
-use Rattle.witness_ways.specs.Extremes.{just, ◌and◌, ◌or◌, Spans, no_way, spans}
+use Rattle.witness_ways.specs.Extremes.{Extremes, just, ◌and◌, ◌or◌, Spans, no_way, spans}
 
 pub bytes-append : (c : Context) (w v : Witness) → bytes_of c (w ++ v) ≡ bytes_of c w + bytes_of c v
 unfolding sum
@@ -60,7 +59,7 @@ module _ {c : Context} where
     where
       none : (w : Witness) → Joined P Q w → ⊥
       none w (joined {w = u} p q) = n u q
-  and-spans {P} {Q} (spans {smallest = a₁} {largest = b₁} p) (spans {smallest = a₂} {largest = b₂} q) =
+  and-spans {P} {Q} (spans {x = x₁} p) (spans {x = x₂} q) =
       spans (record { fewest = both p.fewest q.fewest; most = both p.most q.most; from = from; to = to })
     where
       both : {a b : ℕ} → Met c P a → Met c Q b → Met c (Joined P Q) (a + b)
@@ -71,10 +70,10 @@ module _ {c : Context} where
             weighs = omega (arith, bytes-append c p.witness q.witness, p.weighs, q.weighs);
           }
 
-      from : (w : Witness) → Joined P Q w → a₁ + a₂ ≤ bytes_of c w
+      from : (w : Witness) → Joined P Q w → x₁.fewest + x₂.fewest ≤ bytes_of c w
       from w (joined {v} {w = u} x y) = omega (arith, bytes-append c v u, p.from v x, q.from u y)
 
-      to : (w : Witness) → Joined P Q w → bytes_of c w ≤ b₁ + b₂
+      to : (w : Witness) → Joined P Q w → bytes_of c w ≤ x₁.most + x₂.most
       to w (joined {v} {w = u} x y) = omega (arith, bytes-append c v u, p.to v x, q.to u y)
 
   pub or-spans : {P Q : Witness → Type 0} {x y : Extremes} → Spans c P x → Spans c Q y → Spans c (λ w. P w ⊎ Q w) (x or y)
@@ -88,8 +87,8 @@ module _ {c : Context} where
       left : (w : Witness) → P w ⊎ Q w → P w
       left w (inl p) = p
       left w (inr q) = absurd (n w q)
-  or-spans {P} {Q} (spans {smallest = a₁} {largest = b₁} p) (spans {smallest = a₂} {largest = b₂} q) =
-      spans (record { fewest = fewest (leb a₁ a₂) refl; most = most (leb b₁ b₂) refl; from = from; to = to })
+  or-spans {P} {Q} (spans {x = x₁} p) (spans {x = x₂} q) =
+      spans (record { fewest = fewest (leb x₁.fewest x₂.fewest) refl; most = most (leb x₁.most x₂.most) refl; from = from; to = to })
     where
       by_left : {n m : ℕ} → n ≡ m → Met c P n → Met c (λ w. P w ⊎ Q w) m
       by_left e p = record { witness = p.witness; is = inl p.is; weighs = p.weighs ∙ e }
@@ -97,18 +96,18 @@ module _ {c : Context} where
       by_right : {n m : ℕ} → n ≡ m → Met c Q n → Met c (λ w. P w ⊎ Q w) m
       by_right e q = record { witness = q.witness; is = inr q.is; weighs = q.weighs ∙ e }
 
-      fewest : (b : Bool) → leb a₁ a₂ ≡ b → Met c (λ w. P w ⊎ Q w) (min a₁ a₂)
-      fewest true t = by_left (omega (arith, leb-true a₁ a₂ t)) p.fewest
-      fewest false t = by_right (omega (arith, leb-false a₁ a₂ t)) q.fewest
+      fewest : (b : Bool) → leb x₁.fewest x₂.fewest ≡ b → Met c (λ w. P w ⊎ Q w) (min x₁.fewest x₂.fewest)
+      fewest true t = by_left (omega (arith, leb-true x₁.fewest x₂.fewest t)) p.fewest
+      fewest false t = by_right (omega (arith, leb-false x₁.fewest x₂.fewest t)) q.fewest
 
-      most : (b : Bool) → leb b₁ b₂ ≡ b → Met c (λ w. P w ⊎ Q w) (max b₁ b₂)
-      most true t = by_right (omega (arith, leb-true b₁ b₂ t)) q.most
-      most false t = by_left (omega (arith, leb-false b₁ b₂ t)) p.most
+      most : (b : Bool) → leb x₁.most x₂.most ≡ b → Met c (λ w. P w ⊎ Q w) (max x₁.most x₂.most)
+      most true t = by_right (omega (arith, leb-true x₁.most x₂.most t)) q.most
+      most false t = by_left (omega (arith, leb-false x₁.most x₂.most t)) p.most
 
-      from : (w : Witness) → P w ⊎ Q w → min a₁ a₂ ≤ bytes_of c w
+      from : (w : Witness) → P w ⊎ Q w → min x₁.fewest x₂.fewest ≤ bytes_of c w
       from w (inl x) = omega (arith, p.from w x)
       from w (inr y) = omega (arith, q.from w y)
 
-      to : (w : Witness) → P w ⊎ Q w → bytes_of c w ≤ max b₁ b₂
+      to : (w : Witness) → P w ⊎ Q w → bytes_of c w ≤ max x₁.most x₂.most
       to w (inl x) = omega (arith, p.to w x)
       to w (inr y) = omega (arith, q.to w y)

@@ -1,4 +1,5 @@
 -- What is computed is what is asked: specs/Extremes.antt. Assumes nothing.
+use Rattle.std.specs.Prelude.{None, Some}
 use Prim.Native.Nat.{ℕ, zero, suc}
 use mathlib.Core.List.{[], ◌∷◌}
 use mathlib.Core.Logic.{inl, inr}
@@ -10,12 +11,10 @@ use Rattle.contexts.specs.Lists.{sum}
 use Rattle.trees.specs.Fragment.{Fragment, Fragments, end, ◌▹◌, False, True, PkK, PkH, Lock, Hash}
 use Rattle.trees.specs.Fragment.{Alt, Swap, Check, DupIf, Verify, NonZero, ZeroNotEqual}
 use Rattle.trees.specs.Fragment.{AndB, AndV, OrB, OrD, OrC, OrI, AndOr, Thresh, Multi, MultiA}
-use Rattle.witness_ways.specs.declared.Extremes.{Extremes}
-use Rattle.witness_ways.specs.declared.Extremes.TheVariants.{NoWay, Bytes}
 use Rattle.witness_ways.specs.Elements.{Witness, empty, one}
 use Rattle.witness_ways.specs.Ways.{Satisfies, Dissatisfies, Exactly, no-child, sat-child, dissat-child}
 use Rattle.witness_ways.specs.Spends.{Within, Spends, none, some}
-use Rattle.witness_ways.specs.Extremes.{just, ◌and◌, sat, dissat, no_child, one_more, by_count, extremes, Spans, no_way, spans, ExtremesMet, found_in, smallest_in, largest_in}
+use Rattle.witness_ways.specs.Extremes.{Extremes, just, ◌and◌, sat, dissat, no_child, one_more, by_count, extremes, Spans, no_way, spans, ExtremesMet, found_in, smallest_in, largest_in}
 use Rattle.witness_ways.proofs.Spans.{Joined, joined, Only, only, map-spans, only-spans, and-spans, or-spans}
 use Rattle.witness_ways.proofs.Keys.{empties-weigh, picked-spans, placed-spans}
 use Rattle.witness_ways.proofs.Columns.{nowhere, either, sat_row, sat_row-from, sat_row-to, dissat_row, dissat_row-from, dissat_row-to}
@@ -25,7 +24,7 @@ module _ (c : Context) where
   by-columns : (f : Fragment) → Spans c (sat_row f) (sat (extremes c f)) → Spans c (dissat_row f) (dissat (extremes c f)) → ExtremesMet c f
   by-columns f s d = record { satisfied = map-spans s (sat_row-to f) sat_row-from; dissatisfied = map-spans d (dissat_row-to f) dissat_row-from }
 
-  empty-way : Spans c nowhere NoWay
+  empty-way : Spans c nowhere None
   empty-way = no_way (λ w p. p)
 
   nothing-at-all : Spans c (Only []) (just 0)
@@ -141,8 +140,8 @@ module _ (c : Context) where
   -- ---- what is asked of a tree
 
   spans-spends : (f : Fragment) (e : Extremes) → Spans c (Satisfies f) e → Spends c f (found_in e) (smallest_in e) (largest_in e)
-  spans-spends f NoWay (no_way n) = none n
-  spans-spends f (Bytes a b) (spans w) = some w
+  spans-spends f None (no_way n) = none n
+  spans-spends f (Some x) (spans w) = some w
 
   pub spends-computed : (f : Fragment) → Spends c f (found_in (sat (extremes c f))) (smallest_in (sat (extremes c f))) (largest_in (sat (extremes c f)))
   spends-computed f = spans-spends f (sat (extremes c f)) (extremes-met f).satisfied

@@ -1,34 +1,40 @@
 -- The extremes by structure, from BIP 379's satisfaction table as specs/Ways.antt has it. proofs/Extremes.antt shows that they are those of
 -- the ways. A threshold's are by how many of its children are satisfied.
-use Rattle.std.specs.Prelude.{ℕ, zero, suc, ◌+◌, ◌*◌, ◌-◌, min, max, cond, leb, length}
+use Rattle.std.specs.Prelude.{ℕ, zero, suc, ◌+◌, ◌*◌, ◌-◌, min, max, cond, leb, length, Option, None, Some}
 use Rattle.contexts.specs.declared.Context.{Context}
 use Rattle.trees.specs.Fragment.{Fragment, Fragments, end, ◌▹◌, False, True, PkK, PkH, Lock, Hash}
 use Rattle.trees.specs.Fragment.{Alt, Swap, Check, DupIf, Verify, NonZero, ZeroNotEqual}
 use Rattle.trees.specs.Fragment.{AndB, AndV, OrB, OrD, OrC, OrI, AndOr, Thresh, Multi, MultiA}
-use Rattle.witness_ways.specs.declared.Extremes.{Extremes}
-use Rattle.witness_ways.specs.declared.Extremes.TheVariants.{NoWay, Bytes}
+use Rattle.witness_ways.specs.declared.Bytes.{Bytes}
 use Rattle.witness_ways.specs.declared.Both.{Both}
 use Rattle.witness_ways.specs.Elements.{Witness, signature_bytes, key_bytes}
 use Rattle.witness_ways.specs.Ways.{Satisfies, Dissatisfies}
 use Rattle.witness_ways.specs.Spends.{Within}
 
+-- the fewest and the most bytes of the witnesses of some ways, none where there is no way
+abbrev pub Extremes : Type 0
+Extremes = Option Bytes
+
+abbrev pub bytes : (fewest most : ℕ) → Extremes
+bytes a b = Some (record { fewest = a; most = b })
+
 -- every way has so many bytes
 abbrev pub just : ℕ → Extremes
-just n = Bytes n n
+just n = bytes n n
 
 infixl 60 ◌and◌
 infixl 50 ◌or◌
 -- a way of each, the second on the first
 abbrev pub ◌and◌ : Extremes → Extremes → Extremes
-NoWay and y = NoWay
-Bytes a b and NoWay = NoWay
-Bytes a b and Bytes c d = Bytes (a + c) (b + d)
+None and y = None
+Some x and None = None
+Some x and Some y = bytes (x.fewest + y.fewest) (x.most + y.most)
 
 -- a way of either
 abbrev pub ◌or◌ : Extremes → Extremes → Extremes
-NoWay or y = y
-Bytes a b or NoWay = Bytes a b
-Bytes a b or Bytes c d = Bytes (min a c) (max b d)
+None or y = y
+Some x or None = Some x
+Some x or Some y = bytes (min x.fewest y.fewest) (max x.most y.most)
 
 abbrev pub ways : (satisfied dissatisfied : Extremes) → Both
 ways s d = record { satisfied = s; dissatisfied = d }
@@ -42,13 +48,13 @@ abbrev pub dissat : Both → Extremes
 dissat x = x.dissatisfied
 
 abbrev pub false_ways : Both
-false_ways = ways NoWay (just 0)
+false_ways = ways None (just 0)
 
 abbrev pub true_ways : Both
-true_ways = ways (just 0) NoWay
+true_ways = ways (just 0) None
 
 abbrev pub hash_ways : Both
-hash_ways = ways (just 33) NoWay
+hash_ways = ways (just 33) None
 
 abbrev pub pk_k_ways : Context → Both
 pk_k_ways c = ways (just (signature_bytes c)) (just 1)
@@ -60,7 +66,7 @@ abbrev pub and_or_ways : (x y z : Both) → Both
 and_or_ways x y z = ways (sat y and sat x or sat z and dissat x) (dissat z and dissat x)
 
 abbrev pub and_v_ways : (x y : Both) → Both
-and_v_ways x y = ways (sat y and sat x) NoWay
+and_v_ways x y = ways (sat y and sat x) None
 
 abbrev pub and_b_ways : (x y : Both) → Both
 and_b_ways x y = ways (sat y and sat x) (dissat y and dissat x)
@@ -69,7 +75,7 @@ abbrev pub or_b_ways : (x z : Both) → Both
 or_b_ways x z = ways (dissat z and sat x or sat z and dissat x) (dissat z and dissat x)
 
 abbrev pub or_c_ways : (x z : Both) → Both
-or_c_ways x z = ways (sat x or sat z and dissat x) NoWay
+or_c_ways x z = ways (sat x or sat z and dissat x) None
 
 abbrev pub or_d_ways : (x z : Both) → Both
 or_d_ways x z = ways (sat x or sat z and dissat x) (dissat z and dissat x)
@@ -79,7 +85,7 @@ or_i_ways x z = ways (sat x and just 2 or sat z and just 1) (dissat x and just 2
 
 -- k of n keys sign, with so many bytes
 abbrev pub some_of : (k n bytes : ℕ) → Extremes
-some_of k n bytes = cond (leb k n) (just bytes) NoWay
+some_of k n bytes = cond (leb k n) (just bytes) None
 
 abbrev pub multi_ways : Context → (k n : ℕ) → Both
 multi_ways c k n = ways (just 1 and some_of k n (k * signature_bytes c)) (just (1 + k))
@@ -91,7 +97,7 @@ abbrev pub dup_if_ways : Both → Both
 dup_if_ways x = ways (sat x and just 2) (just 1)
 
 abbrev pub verify_ways : Both → Both
-verify_ways x = ways (sat x) NoWay
+verify_ways x = ways (sat x) None
 
 abbrev pub non_zero_ways : Both → Both
 non_zero_ways x = ways (sat x) (just 1)
@@ -104,7 +110,7 @@ ByCount = ℕ → Extremes
 -- without children none is satisfied
 abbrev pub no_child : ByCount
 no_child zero = just 0
-no_child (suc k) = NoWay
+no_child (suc k) = None
 
 -- one child more is satisfied, or dissatisfied
 abbrev pub one_more : Both → ByCount → ByCount
@@ -146,8 +152,8 @@ module _ (c : Context) where
 
 -- Extremes are those of some ways.
 pub data Spans (c : Context) (way : Witness → Type 0) : Extremes → Type 0 where
-  no_way : ((w : Witness) → way w → ⊥) → Spans c way NoWay
-  spans : {smallest largest : ℕ} → Within c way smallest largest → Spans c way (Bytes smallest largest)
+  no_way : ((w : Witness) → way w → ⊥) → Spans c way None
+  spans : {x : Bytes} → Within c way x.fewest x.most → Spans c way (Some x)
 
 -- The computed extremes are those of the ways to satisfy a fragment and to dissatisfy it, whatever its type.
 pub record ExtremesMet (c : Context) (f : Fragment) : Type 0 where
@@ -156,13 +162,13 @@ pub record ExtremesMet (c : Context) (f : Fragment) : Type 0 where
 
 -- document 02's results of the extremes: whether there is a way, and its fewest and most bytes
 abbrev pub found_in : Extremes → ℕ
-found_in NoWay = 0
-found_in (Bytes a b) = 1
+found_in None = 0
+found_in (Some x) = 1
 
 abbrev pub smallest_in : Extremes → ℕ
-smallest_in NoWay = 0
-smallest_in (Bytes a b) = a
+smallest_in None = 0
+smallest_in (Some x) = x.fewest
 
 abbrev pub largest_in : Extremes → ℕ
-largest_in NoWay = 0
-largest_in (Bytes a b) = b
+largest_in None = 0
+largest_in (Some x) = x.most

@@ -4,16 +4,16 @@
 // specs/Extremes.antt computes it by structure. proofs/ shows that what is computed is what is asked.
 #![tactic(auto)]
 
-// The fewest and the most bytes of the witnesses of some ways, or that there is no way.
+// The fewest and the most bytes of the witnesses of some ways.
 #[derive(Clone, Copy)]
-pub enum Extremes {
-    NoWay,
-    Bytes(u64, u64),
+pub struct Bytes {
+    pub fewest: u64,
+    pub most: u64,
 }
 
-// The extremes of the ways to satisfy a fragment, and of the ways to dissatisfy it.
+// The extremes of the ways to satisfy a fragment, and of the ways to dissatisfy it; `None` where there is no way.
 #[derive(Clone, Copy)]
 pub struct Both {
-    pub satisfied: Extremes,
-    pub dissatisfied: Extremes,
+    pub satisfied: Option<Bytes>,
+    pub dissatisfied: Option<Bytes>,
 }

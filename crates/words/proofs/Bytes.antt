@@ -1,10 +1,10 @@
--- Laws on little-endian numbers, over the width. Crates above cite `found`, `missing`, `read-room`, `length-put`, `read_back`,
--- `read-elsewhere`, and what the answers tell, `found16`, `missing16`, `found32`, `missing32`, `found64`, `missing64`. Assumes nothing.
+-- Laws on little-endian numbers, over the width. Crates above cite `found`, `missing`, `read-room`, `length-put`, `read_back` and
+-- `read-elsewhere`. Assumes nothing.
 use mathlib.Core.Path.{◌≡◌, refl, sym, ap, subst, ◌∙◌}
 use mathlib.Core.Bool.{Bool, true, false}
 use mathlib.Core.List.{List, [], ◌∷◌, ◌++◌, append_assoc}
 use mathlib.Core.Logic.{◌⊎◌, inl, inr, ⊎_elim}
-use mathlib.Core.Option.{Option, none, some}
+use Rattle.std.specs.Prelude.{None, Some}
 use Prim.Native.Nat.{ℕ, zero, suc, ◌+◌, ◌*◌, ◌/◌, ◌%◌, ◌^◌, ◌-◌, ◌<◌, ◌≤◌}
 use native.Mathlib.Nat.{div-add-mod', pow-suc}
 use native.Mathlib.Numerals.{add-one}
@@ -14,13 +14,6 @@ use lib.Dec.{leb}
 use lib.ListN.{length, get_or, set, take, drop}
 use lib.Seq.{sets, length-sets, sets-eq, drop_at, take_at, length-take-le}
 use Rattle.words.specs.Bytes.{little, bytes_of, has_bytes, when_read, le_at, when_written, put_le}
-use Rattle.words.specs.Answers.{read16, read32, read64}
-use Rattle.words.specs.declared.Read16.{Read16}
-use Rattle.words.specs.declared.Read16.TheVariants as Read16
-use Rattle.words.specs.declared.Read32.{Read32}
-use Rattle.words.specs.declared.Read32.TheVariants as Read32
-use Rattle.words.specs.declared.Read64.{Read64}
-use Rattle.words.specs.declared.Read64.TheVariants as Read64
 use Rattle.words.proofs.Stores.{sets_below, sets-above, sets-append}
 
 -- ---- whether the bytes are there
@@ -38,20 +31,20 @@ room width s at h = leb-true (at + width) (length s) h
 
 -- ---- reading
 
-pub found : (width : ℕ) (s : List ℕ) (at : ℕ) → has_bytes width s at ≡ true → le_at width s at ≡ some (little (take width (drop at s)))
+pub found : (width : ℕ) (s : List ℕ) (at : ℕ) → has_bytes width s at ≡ true → le_at width s at ≡ Some (little (take width (drop at s)))
 unfolding le_at
 found width s at h = rw h
 
-pub missing : (width : ℕ) (s : List ℕ) (at : ℕ) → has_bytes width s at ≡ false → le_at width s at ≡ none
+pub missing : (width : ℕ) (s : List ℕ) (at : ℕ) → has_bytes width s at ≡ false → le_at width s at ≡ None
 unfolding le_at
 missing width s at h = rw h
 
 -- where a number is read, its bytes are there
-pub read-room : (width : ℕ) (s : List ℕ) (at : ℕ) {v : ℕ} → le_at width s at ≡ some v → at + width ≤ length s
+pub read-room : (width : ℕ) (s : List ℕ) (at : ℕ) {v : ℕ} → le_at width s at ≡ Some v → at + width ≤ length s
 unfolding le_at
 read-room width s at {v} e = room width s at (by-room (has_bytes width s at) e)
   where
-    by-room : (t : Bool) → when_read t (little (take width (drop at s))) ≡ some v → t ≡ true
+    by-room : (t : Bool) → when_read t (little (take width (drop at s))) ≡ Some v → t ≡ true
     by-room true e = refl
     by-room false e = cc
 
@@ -70,18 +63,18 @@ pub little-next : (width : ℕ) (s : List ℕ) (at : ℕ)
     → little (take (suc width) (drop at s)) ≡ get_or s at 0 + little (take width (drop (at + 1) s)) * 256
 little-next width s at = rw add-one (little-suc width s at)
 
-pub found-2 : (s : List ℕ) (at : ℕ) → has_bytes 2 s at ≡ true → le_at 2 s at ≡ some (get_or s at 0 + get_or s (at + 1) 0 * 256)
+pub found-2 : (s : List ℕ) (at : ℕ) → has_bytes 2 s at ≡ true → le_at 2 s at ≡ Some (get_or s at 0 + get_or s (at + 1) 0 * 256)
 unfolding little
-found-2 s at h = found 2 s at h ∙ ap some (little-next 1 s at ∙ rw (little-next 0 s (at + 1)) (omega arith))
+found-2 s at h = found 2 s at h ∙ ap Some (little-next 1 s at ∙ rw (little-next 0 s (at + 1)) (omega arith))
 
 pub found-4 : (s : List ℕ) (at : ℕ) → has_bytes 4 s at ≡ true
-    → le_at 4 s at ≡ some (get_or s at 0 + get_or s (at + 1) 0 * 256 + get_or s (at + 2) 0 * 65536 + get_or s (at + 3) 0 * 16777216)
+    → le_at 4 s at ≡ Some (get_or s at 0 + get_or s (at + 1) 0 * 256 + get_or s (at + 2) 0 * 65536 + get_or s (at + 3) 0 * 16777216)
 unfolding little
 found-4 s at h =
     let e₂ : at + 1 + 1 ≡ at + 2 = omega arith in
     let e₃ : at + 2 + 1 ≡ at + 3 = omega arith in
     found 4 s at h
-    ∙ ap some (rw (little-next 3 s at, little-next 2 s (at + 1), e₂, little-next 1 s (at + 2), e₃, little-next 0 s (at + 3)) (omega arith))
+    ∙ ap Some (rw (little-next 3 s at, little-next 2 s (at + 1), e₂, little-next 1 s (at + 2), e₃, little-next 0 s (at + 3)) (omega arith))
 
 -- eight bytes are two numbers of four
 little-eight : (s : List ℕ) (at : ℕ)
@@ -107,34 +100,34 @@ little-eight s at =
       little-next 0 s (at + 3),
     ) (omega arith)
 
-at_some : (width : ℕ) (s : List ℕ) (at : ℕ) {v : ℕ} → le_at width s at ≡ some v → v ≡ little (take width (drop at s))
+at_some : (width : ℕ) (s : List ℕ) (at : ℕ) {v : ℕ} → le_at width s at ≡ Some v → v ≡ little (take width (drop at s))
 at_some width s at e =
     let there = le-leb (at + width) (length s) (read-room width s at e) in
     some_is (sym e ∙ found width s at there)
   where
-    some_is : {v w : ℕ} → some v ≡ some w → v ≡ w
+    some_is : {v w : ℕ} → Some v ≡ Some w → v ≡ w
     some_is e = cc
 
-pub found-8 : (s : List ℕ) (at : ℕ) {low high : ℕ} → le_at 4 s at ≡ some low → le_at 4 s (at + 4) ≡ some high
-    → le_at 8 s at ≡ some (low + high * 4294967296)
+pub found-8 : (s : List ℕ) (at : ℕ) {low high : ℕ} → le_at 4 s at ≡ Some low → le_at 4 s (at + 4) ≡ Some high
+    → le_at 8 s at ≡ Some (low + high * 4294967296)
 found-8 s at l h =
     let room = read-room 4 s (at + 4) h in
-    found 8 s at (le-leb (at + 8) (length s) (omega arith)) ∙ ap some (rw (at_some 4 s at l, at_some 4 s (at + 4) h) (little-eight s at))
+    found 8 s at (le-leb (at + 8) (length s) (omega arith)) ∙ ap Some (rw (at_some 4 s at l, at_some 4 s (at + 4) h) (little-eight s at))
 
 -- where four of them are missing, so are all eight
-pub missing-low : (s : List ℕ) (at : ℕ) → le_at 4 s at ≡ none → le_at 8 s at ≡ none
+pub missing-low : (s : List ℕ) (at : ℕ) → le_at 4 s at ≡ None → le_at 8 s at ≡ None
 missing-low s at e = by-room (has_bytes 8 s at) refl
   where
-    by-room : (t : Bool) → has_bytes 8 s at ≡ t → le_at 8 s at ≡ none
+    by-room : (t : Bool) → has_bytes 8 s at ≡ t → le_at 8 s at ≡ None
     by-room true h =
         let there = found 4 s at (le-leb (at + 4) (length s) (omega (arith, room 8 s at h))) in
         cc
     by-room false h = missing 8 s at h
 
-pub missing-high : (s : List ℕ) (at : ℕ) → le_at 4 s (at + 4) ≡ none → le_at 8 s at ≡ none
+pub missing-high : (s : List ℕ) (at : ℕ) → le_at 4 s (at + 4) ≡ None → le_at 8 s at ≡ None
 missing-high s at e = by-room (has_bytes 8 s at) refl
   where
-    by-room : (t : Bool) → has_bytes 8 s at ≡ t → le_at 8 s at ≡ none
+    by-room : (t : Bool) → has_bytes 8 s at ≡ t → le_at 8 s at ≡ None
     by-room true h =
         let there = found 4 s (at + 4) (le-leb (at + 4 + 4) (length s) (omega (arith, room 8 s at h))) in
         cc
@@ -234,13 +227,13 @@ taken-sets vs s at h =
 
 -- a number that is written is read there
 pub read_back : (width : ℕ) (s : List ℕ) (at v : ℕ) → has_bytes width s at ≡ true → v < 256 ^ width
-    → le_at width (put_le width s at v) at ≡ some v
+    → le_at width (put_le width s at v) at ≡ Some v
 read_back width s at v h f =
     let len = length-bytes width v in
     let h' : at + length (bytes_of width v) ≤ length s = rw len (room width s at h) in
     let fits : has_bytes width (put_le width s at v) at ≡ true = rw length-put h in
     found width (put_le width s at v) at fits
-    ∙ ap some (rw (
+    ∙ ap Some (rw (
       written width s at v h,
       subst (λ (k : ℕ). take k (drop at (sets s at (bytes_of width v))) ≡ bytes_of width v) len
           (taken-sets (bytes_of width v) s at h'),
@@ -280,47 +273,3 @@ read-elsewhere width s at v width' at' apart =
   where
     byte-apart : (j : ℕ) → at' ≤ j → j < at' + width' → (j < at) ⊎ (at + width ≤ j)
     byte-apart j l u = ⊎_elim (λ (b : at' + width' ≤ at). inl (omega arith)) (λ (a : at + width ≤ at'). inr (omega arith)) apart
-
--- ---- what the answers tell: from a reader's contract and the variant that was met
-
-some16 : (o : Option ℕ) {r : Read16} {v : ℕ} → r ≡ read16 o → r ≡ Read16.Found v → o ≡ some v
-some16 (some w) e m = cc
-some16 none e m = cc
-
-none16 : (o : Option ℕ) {r : Read16} → r ≡ read16 o → r ≡ Read16.Missing → o ≡ none
-none16 (some w) e m = cc
-none16 none e m = refl
-
-some32 : (o : Option ℕ) {r : Read32} {v : ℕ} → r ≡ read32 o → r ≡ Read32.Found v → o ≡ some v
-some32 (some w) e m = cc
-some32 none e m = cc
-
-none32 : (o : Option ℕ) {r : Read32} → r ≡ read32 o → r ≡ Read32.Missing → o ≡ none
-none32 (some w) e m = cc
-none32 none e m = refl
-
-pub found16 : (s : List ℕ) (at : ℕ) {r : Read16} {v : ℕ} → r ≡ read16 (le_at 2 s at) → r ≡ Read16.Found v → le_at 2 s at ≡ some v
-found16 s at e m = some16 (le_at 2 s at) e m
-
-pub missing16 : (s : List ℕ) (at : ℕ) {r : Read16} → r ≡ read16 (le_at 2 s at) → r ≡ Read16.Missing → le_at 2 s at ≡ none
-missing16 s at e m = none16 (le_at 2 s at) e m
-
-pub found32 : (s : List ℕ) (at : ℕ) {r : Read32} {v : ℕ} → r ≡ read32 (le_at 4 s at) → r ≡ Read32.Found v → le_at 4 s at ≡ some v
-found32 s at e m = some32 (le_at 4 s at) e m
-
-pub missing32 : (s : List ℕ) (at : ℕ) {r : Read32} → r ≡ read32 (le_at 4 s at) → r ≡ Read32.Missing → le_at 4 s at ≡ none
-missing32 s at e m = none32 (le_at 4 s at) e m
-
-some64 : (o : Option ℕ) {r : Read64} {v : ℕ} → r ≡ read64 o → r ≡ Read64.Found v → o ≡ some v
-some64 (some w) e m = cc
-some64 none e m = cc
-
-none64 : (o : Option ℕ) {r : Read64} → r ≡ read64 o → r ≡ Read64.Missing → o ≡ none
-none64 (some w) e m = cc
-none64 none e m = refl
-
-pub found64 : (s : List ℕ) (at : ℕ) {r : Read64} {v : ℕ} → r ≡ read64 (le_at 8 s at) → r ≡ Read64.Found v → le_at 8 s at ≡ some v
-found64 s at e m = some64 (le_at 8 s at) e m
-
-pub missing64 : (s : List ℕ) (at : ℕ) {r : Read64} → r ≡ read64 (le_at 8 s at) → r ≡ Read64.Missing → le_at 8 s at ≡ none
-missing64 s at e m = none64 (le_at 8 s at) e m

@@ -1,7 +1,6 @@
 -- Little-endian numbers of any width in a list of bytes: document 01, "Records" (lengths, kinds and child numbers are u16; keys, locks
 -- and weights are u32), and document 02, R-3 (keys may be u64). Assumes nothing.
-use Rattle.std.specs.Prelude.{Bool, true, false, List, [], ◌∷◌, ℕ, zero, suc, ◌+◌, ◌*◌, ◌/◌, ◌%◌, leb, length, take, drop}
-use Rattle.std.proofs.Math.Option.{Option, none, some}
+use Rattle.std.specs.Prelude.{Bool, true, false, List, [], ◌∷◌, ℕ, zero, suc, ◌+◌, ◌*◌, ◌/◌, ◌%◌, leb, length, take, drop, Option, None, Some}
 use Rattle.std.proofs.lemmas.List.Edits.{sets}
 
 -- the number that some bytes write, the least significant first
@@ -19,8 +18,8 @@ abbrev pub has_bytes : (width : ℕ) → List ℕ → ℕ → Bool
 has_bytes width s at = leb (at + width) (length s)
 
 abbrev pub when_read : Bool → ℕ → Option ℕ
-when_read true v = some v
-when_read false v = none
+when_read true v = Some v
+when_read false v = None
 
 -- the number read at a place, if its bytes are there
 unfoldable pub le_at : (width : ℕ) → List ℕ → ℕ → Option ℕ

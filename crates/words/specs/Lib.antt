@@ -1,4 +1,3 @@
 pub mod Floats
 pub mod Bytes
-pub mod Answers
 pub mod Memory

@@ -1,14 +1,13 @@
 // What a word and a byte hold, for every crate above: an f64 in a u64 and back, which floats are costs, little-endian numbers in a slice of
 // bytes, and the clearing of work memory.
 //
-// Its contracts cite `specs/Floats.antt`, `specs/Bytes.antt`, `specs/Answers.antt` and `specs/Memory.antt`. The laws that crates above
+// Its contracts cite `specs/Floats.antt`, `specs/Bytes.antt` and `specs/Memory.antt`. The laws that crates above
 // cite stand in `proofs/Floats.antt`, `proofs/Bytes.antt`, `proofs/Stores.antt` and `proofs/Packing.antt`.
 #![tactic(auto)]
 
 ghost use Rattle.std.specs.Prelude.{◌≡◌};
 ghost use Rattle.words.specs.Floats.{word_of_float, float_of_word, is_cost};
 ghost use Rattle.words.specs.Bytes.{has_bytes, le_at, put_le};
-ghost use Rattle.words.specs.Answers.{read16, read32, read64};
 ghost use Rattle.words.specs.Memory.{zeroed};
 
 // The word of every NaN.
@@ -52,27 +51,6 @@ pub fn is_cost(x: f64) -> bool
     bits < SIGN_WORD
 }
 
-// What reading a u16 finds.
-#[derive(Clone, Copy)]
-pub enum Read16 {
-    Found(u16),
-    Missing,
-}
-
-// What reading a u32 finds.
-#[derive(Clone, Copy)]
-pub enum Read32 {
-    Found(u32),
-    Missing,
-}
-
-// What reading a u64 finds.
-#[derive(Clone, Copy)]
-pub enum Read64 {
-    Found(u64),
-    Missing,
-}
-
 // Whether s holds `width` bytes from `at` on.
 pub fn has_bytes(s: &[u8], at: usize, width: usize) -> bool
     ensures { result ≡ has_bytes width s.now at }
@@ -84,42 +62,38 @@ pub fn has_bytes(s: &[u8], at: usize, width: usize) -> bool
 }
 
 // The little-endian u16 at `at`, if both its bytes are there.
-pub fn u16_at(s: &[u8], at: usize) -> Read16
-    ensures { result ≡ read16 (le_at 2 s.now at) }
+pub fn u16_at(s: &[u8], at: usize) -> Option<u16>
+    ensures { result ≡ le_at 2 s.now at }
 {
     if has_bytes(s, at, 2) {
         let b0 = s[at] as u16;
         let b1 = s[at + 1] as u16;
-        return Read16::Found(b0 + b1 * 256);
+        return Some(b0 + b1 * 256);
     }
-    Read16::Missing
+    None
 }
 
 // The little-endian u32 at `at`, if all four bytes are there.
-pub fn u32_at(s: &[u8], at: usize) -> Read32
-    ensures { result ≡ read32 (le_at 4 s.now at) }
+pub fn u32_at(s: &[u8], at: usize) -> Option<u32>
+    ensures { result ≡ le_at 4 s.now at }
 {
     if has_bytes(s, at, 4) {
         let b0 = s[at] as u32;
         let b1 = s[at + 1] as u32;
         let b2 = s[at + 2] as u32;
         let b3 = s[at + 3] as u32;
-        return Read32::Found(b0 + b1 * 256 + b2 * 65536 + b3 * 16777216);
+        return Some(b0 + b1 * 256 + b2 * 65536 + b3 * 16777216);
     }
-    Read32::Missing
+    None
 }
 
 // The little-endian u64 at `at`, if all eight bytes are there.
-pub fn u64_at(s: &[u8], at: usize) -> Read64
-    ensures { result ≡ read64 (le_at 8 s.now at) }
+pub fn u64_at(s: &[u8], at: usize) -> Option<u64>
+    ensures { result ≡ le_at 8 s.now at }
 {
-    match u32_at(s, at) {
-        Read32::Found(low) => match u32_at(s, at + 4) {
-            Read32::Found(high) => Read64::Found(low as u64 + high as u64 * 0x1_0000_0000),
-            Read32::Missing => Read64::Missing,
-        },
-        Read32::Missing => Read64::Missing,
-    }
+    let low = u32_at(s, at)?;
+    let high = u32_at(s, at + 4)?;
+    Some(low as u64 + high as u64 * 0x1_0000_0000)
 }
 
 // Writes v at `at`, little-endian, and says true; where two bytes are not there it writes nothing and says false.
@@ -167,9 +141,5 @@ pub fn put_u64(s: &mut [u8], at: usize, v: u64) -> bool
 pub fn clear(work: &mut [u64])
     ensures { work.new ≡ zeroed work.old }
 {
-    let mut i = 0;
-    while i < work.len() {
-        work[i] = 0;
-        i += 1;
-    }
+    work.fill(0);
 }

@@ -2,7 +2,7 @@
 -- Assumes nothing.
 use mathlib.Core.Path.{◌≡◌, refl, ap}
 use mathlib.Core.List.{List, [], ◌∷◌, ◌++◌}
-use mathlib.Core.Option.{Option, none, some}
+use Rattle.std.specs.Prelude.{Option, None, Some}
 use Prim.Native.Nat.{ℕ, zero, suc}
 use native.Mathlib.Omega.{arith}
 use lib.ListN.{length, get_or, set, take, drop}
@@ -14,15 +14,15 @@ use Rattle.writing.specs.WellFormed.{AllBelow}
 
 -- ---- answers
 
-pub no-some : {A : Type 0} {x : A} → none ≡ some x → ⊥
+pub no-some : {A : Type 0} {x : A} → None ≡ Some x → ⊥
 no-some e = let z : ◌≡◌ {A = ℕ} 0 1 = cc in omega arith
 
 pub not_done : {A : Type 0} {n : ℕ} {x : A} → refused n ≡ done x → ⊥
 not_done e = let z : ◌≡◌ {A = ℕ} 0 1 = cc in omega arith
 
-pub given-some : {A : Type 0} (o : Option A) {a : A} → or_refuse bad_tree o ≡ done a → o ≡ some a
-given-some (some b) e = cc
-given-some none e = cc
+pub given-some : {A : Type 0} (o : Option A) {a : A} → or_refuse bad_tree o ≡ done a → o ≡ Some a
+given-some (Some b) e = cc
+given-some None e = cc
 
 -- a step that is done was done on something
 then-done : {A B : Type 0} (r : Answer A) (next : A → Answer B) {b : B} → (r >>= next) ≡ done b → (a : A) × (r ≡ done a) × (next a ≡ done b)
@@ -37,10 +37,10 @@ module _ {A : Type 0} (make : ℕ → Payload → List A → Answer A) where
     pub payload : Payload
     pub taken : Taken A
     pub made : A
-    pub is-payload : fragment_payload s ≡ some payload
-    pub is-taken : take_all (children_of payload) slots ≡ some taken
+    pub is-payload : fragment_payload s ≡ Some payload
+    pub is-taken : take_all (children_of payload) slots ≡ Some taken
     pub is_made : make (kind_of s) payload taken.those ≡ done made
-    pub is-added : slots' ≡ taken.left ++ (some made ∷ [])
+    pub is-added : slots' ≡ taken.left ++ (Some made ∷ [])
 
   added : (slots : Slots A) (s : List ℕ) {slots' : Slots A} → add_record make slots s ≡ done slots' → Added slots s slots'
   unfolding add_record
@@ -49,7 +49,7 @@ module _ {A : Type 0} (make : ℕ → Payload → List A → Answer A) where
       let payload = read.0 in
       let got = then-done (or_refuse bad_tree (take_all (children_of payload) slots)) (add_made make (kind_of s) payload) read.2 in
       let taken = got.0 in
-      let built = then-done (make (kind_of s) payload taken.those) (λ x. done (taken.left ++ (some x ∷ []))) got.2 in
+      let built = then-done (make (kind_of s) payload taken.those) (λ x. done (taken.left ++ (Some x ∷ []))) got.2 in
       record {
         payload = payload;
         taken = taken;
@@ -82,8 +82,8 @@ module _ {A : Type 0} (make : ℕ → Payload → List A → Answer A) where
 
 module _ {A : Type 0} (P : A → Type 0) where
   abbrev Held : Option A → Type 0
-  Held none = Unit
-  Held (some x) = P x
+  Held None = Unit
+  Held (Some x) = P x
 
   unfoldable pub AllHeld : Slots A → Type 0
   AllHeld [] = Unit
@@ -93,30 +93,30 @@ module _ {A : Type 0} (P : A → Type 0) where
   All [] = Unit
   All (x ∷ xs) = P x × All xs
 
-  held_at : (slots : Slots A) (j : ℕ) → AllHeld slots → Held (get_or slots j none)
+  held_at : (slots : Slots A) (j : ℕ) → AllHeld slots → Held (get_or slots j None)
   unfolding AllHeld
   held_at [] j h = tt
   held_at (o ∷ slots) zero h = h.0
   held_at (o ∷ slots) (suc j) h = held_at slots j h.1
 
-  held-without : (slots : Slots A) (j : ℕ) → AllHeld slots → AllHeld (set slots j none)
+  held-without : (slots : Slots A) (j : ℕ) → AllHeld slots → AllHeld (set slots j None)
   unfolding AllHeld
   held-without [] j h = tt
   held-without (o ∷ slots) zero h = (tt, h.1)
   held-without (o ∷ slots) (suc j) h = (h.0, held-without slots j h.1)
 
-  held_with : (slots : Slots A) (x : A) → AllHeld slots → P x → AllHeld (slots ++ (some x ∷ []))
+  held_with : (slots : Slots A) (x : A) → AllHeld slots → P x → AllHeld (slots ++ (Some x ∷ []))
   unfolding AllHeld
   held_with [] x h p = (p, tt)
   held_with (o ∷ slots) x h p = (h.0, held_with slots x h.1 p)
 
-  held-root : (slots : Slots A) {x : A} → AllHeld slots → root_of slots ≡ some x → P x
+  held-root : (slots : Slots A) {x : A} → AllHeld slots → root_of slots ≡ Some x → P x
   unfolding AllHeld root_of
   held-root [] h e = absurd (no-some e)
-  held-root (some y ∷ []) {x} h e = (let same : y ≡ x = cc in rw same at h.0)
-  held-root (none ∷ []) h e = absurd (no-some e)
-  held-root (none ∷ o ∷ slots) h e = held-root (o ∷ slots) h.1 e
-  held-root (some y ∷ o ∷ slots) h e = absurd (no-some e)
+  held-root (Some y ∷ []) {x} h e = (let same : y ≡ x = cc in rw same at h.0)
+  held-root (None ∷ []) h e = absurd (no-some e)
+  held-root (None ∷ o ∷ slots) h e = held-root (o ∷ slots) h.1 e
+  held-root (Some y ∷ o ∷ slots) h e = absurd (no-some e)
 
   -- what is taken, and what is left
   pub record Parted (js : List ℕ) (t : Taken A) : Type 0 where
@@ -124,24 +124,24 @@ module _ {A : Type 0} (P : A → Type 0) where
     pub left-holds : AllHeld t.left
     pub as_many : length t.those ≡ length js
 
-  taken-held : (js : List ℕ) (slots : Slots A) {t : Taken A} → AllHeld slots → take_all js slots ≡ some t → Parted js t
+  taken-held : (js : List ℕ) (slots : Slots A) {t : Taken A} → AllHeld slots → take_all js slots ≡ Some t → Parted js t
   unfolding take_all All
   taken-held [] slots {t} h e =
       let same : t ≡ record { those = []; left = slots } = cc in
       rw same (record { those-hold = tt; left-holds = h; as_many = refl })
   taken-held (j ∷ js) slots {t} h e =
-      by_first (get_or slots j none) (take_all js (set slots j none)) (held_at slots j h)
-      (λ u same. taken-held js (set slots j none) {t = u} (held-without slots j h) same) refl e
+      by_first (get_or slots j None) (take_all js (set slots j None)) (held_at slots j h)
+      (λ u same. taken-held js (set slots j None) {t = u} (held-without slots j h) same) refl e
     where
       by_first : (o : Option A) (others : Option (Taken A)) → Held o
-          → ((u : Taken A) → take_all js (set slots j none) ≡ some u → Parted js u) → take_all js (set slots j none) ≡ others
-          → and_first o others ≡ some t → Parted (j ∷ js) t
-      by_first (some x) (some u) p rests same e =
+          → ((u : Taken A) → take_all js (set slots j None) ≡ Some u → Parted js u) → take_all js (set slots j None) ≡ others
+          → and_first o others ≡ Some t → Parted (j ∷ js) t
+      by_first (Some x) (Some u) p rests same e =
           let rest = rests u same in
           let is : t ≡ record { those = x ∷ u.those; left = u.left } = cc in
           rw is (record { those-hold = (p, rest.those-hold); left-holds = rest.left-holds; as_many = ap suc rest.as_many })
-      by_first (some x) none p rests same e = absurd (no-some e)
-      by_first none others p rests same e = absurd (no-some e)
+      by_first (Some x) None p rests same e = absurd (no-some e)
+      by_first None others p rests same e = absurd (no-some e)
 
 -- ---- reading
 
@@ -160,7 +160,7 @@ below-drop bound (suc n) (b ∷ s) h = below-drop bound n s h.1
 module _ {A : Type 0} (make : ℕ → Payload → List A → Answer A) (P : A → Type 0) where
   -- a record makes what holds of children of which it holds
   abbrev pub Makes : Type 0
-  Makes = (s : List ℕ) (payload : Payload) (xs : List A) (x : A) → AllBelow 256 s → fragment_payload s ≡ some payload
+  Makes = (s : List ℕ) (payload : Payload) (xs : List A) (x : A) → AllBelow 256 s → fragment_payload s ≡ Some payload
       → length xs ≡ length (children_of payload) → make (kind_of s) payload xs ≡ done x → All P xs → P x
 
 module _ {A : Type 0} (make : ℕ → Payload → List A → Answer A) (P : A → Type 0) (makes : Makes make P) where

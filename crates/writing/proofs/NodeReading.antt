@@ -1,7 +1,7 @@
 -- Reading the records of a node, whatever stands before and after them. Assumes nothing.
 use mathlib.Core.Path.{◌≡◌, ◌∙◌}
 use mathlib.Core.List.{List, [], ◌∷◌, ◌++◌, append_assoc, append-nil}
-use mathlib.Core.Option.{Option, none, some}
+use Rattle.std.specs.Prelude.{Option, None, Some}
 use Prim.Native.Nat.{ℕ, suc, ◌+◌, ◌*◌, ◌<◌, ◌≤◌}
 use native.Mathlib.Nat.{zero-add, add_assoc}
 use native.Mathlib.Omega.{arith}
@@ -21,7 +21,7 @@ use Rattle.writing.proofs.Slots.{trace, traces, length-trace, Each, no_more, and
 module _ {A : Type 0} (make : ℕ → Payload → List A → Answer A) where
   -- one record, with what was made of it in a slot of its own
 
-  step : (left : ℕ) (slots : Slots A) (s : List ℕ) {len : ℕ} → record_length s ≡ some len
+  step : (left : ℕ) (slots : Slots A) (s : List ℕ) {len : ℕ} → record_length s ≡ Some len
       → read_from make (suc left) slots s ≡ (add_record make slots (take len s) >>= λ slots'. read_from make left slots' (drop len s))
   unfolding read_from
   step left slots [] e = absurd (omega (arith, length-bounds [] e))
@@ -37,8 +37,8 @@ module _ {A : Type 0} (make : ℕ → Payload → List A → Answer A) where
       ∙ rw (take_at s rest len (length-record kind payload), drop_at s rest len (length-record kind payload))
 
   made : (slots left : Slots A) (s : List ℕ) (kind : ℕ) {payload : Payload} {xs : List A} {x : A} → kind_of s ≡ kind
-      → fragment_payload s ≡ some payload → take_all (children_of payload) slots ≡ some (record { those = xs; left = left })
-      → make kind payload xs ≡ done x → add_record make slots s ≡ done (left ++ (some x ∷ []))
+      → fragment_payload s ≡ Some payload → take_all (children_of payload) slots ≡ Some (record { those = xs; left = left })
+      → make kind payload xs ≡ done x → add_record make slots s ≡ done (left ++ (Some x ∷ []))
   unfolding add_record
   made slots left s kind k p t m = rw (p, k, t, m)
 
@@ -49,7 +49,7 @@ module _ {A : Type 0} (make : ℕ → Payload → List A → Answer A) where
     pub is-u16 : kind < 65536
     pub few : length front + 2 * length xs < 65532
     pub says : (cs : List ℕ) → length cs ≡ length xs → AllBelow 65536 cs
-        → (payload : Payload) × (fragment_payload (record_of kind (front ++ in_row 2 cs)) ≡ some payload) × (children_of payload ≡ cs)
+        → (payload : Payload) × (fragment_payload (record_of kind (front ++ in_row 2 cs)) ≡ Some payload) × (children_of payload ≡ cs)
         × (make (meant kind) payload xs ≡ done x)
 
   -- a node's records are read, wherever they stand
@@ -82,8 +82,8 @@ module _ {A : Type 0} (make : ℕ → Payload → List A → Answer A) where
           let payload = front ++ in_row 2 cs in
           let told = said.says cs (length-owns rs n) (owns-below ts n (omega arith)) in
           let few : length payload < 65532 = omega (arith, length-append front (in_row 2 cs), length-row 2 cs, length-owns rs n, said.few) in
-          let emptied = slots ++ replicate {A = Option A} (counts ts) none in
-          let taken : take_all (children_of told.0) (slots ++ traces ts xs) ≡ some (record { those = xs; left = emptied }) =
+          let emptied = slots ++ replicate {A = Option A} (counts ts) None in
+          let taken : take_all (children_of told.0) (slots ++ traces ts xs) ≡ Some (record { those = xs; left = emptied }) =
           rw told.2 (take-nodes rs n slots e) in
           let added = made (slots ++ traces ts xs) emptied (record_of kind payload) (meant kind)
           (record-kind kind payload said.is-u16) told.1 taken told.3 in
@@ -91,4 +91,4 @@ module _ {A : Type 0} (make : ℕ → Payload → List A → Answer A) where
           rw (fuel, append_assoc (written_all n ts) (record_of kind payload) rest)
           (reads_all rs n (suc left) slots (record_of kind payload ++ rest) e (omega arith)
           ∙ read-record left (slots ++ traces ts xs) kind payload rest few
-          ∙ rw (added, append_assoc slots (replicate (counts ts) none) (some x ∷ [])))
+          ∙ rw (added, append_assoc slots (replicate (counts ts) None) (Some x ∷ [])))

@@ -2,7 +2,7 @@
 use mathlib.Core.Path.{◌≡◌, refl, sym, ap, ◌∙◌}
 use mathlib.Core.Bool.{true, cond}
 use mathlib.Core.List.{List, [], ◌∷◌, ◌++◌, append_assoc, append-nil}
-use mathlib.Core.Option.{some}
+use Rattle.std.specs.Prelude.{Some}
 use Prim.Native.Nat.{ℕ, ◌+◌, ◌*◌, ◌^◌, ◌<◌}
 use native.Mathlib.Omega.{arith}
 use borrow.Author.Tests.{le-leb, eq-eqb}
@@ -37,7 +37,7 @@ module _ (kind : ℕ) (payload : List ℕ) where
   unfolding bytes_of
   length-record = omega arith
 
-  pub record-whole : (rest : List ℕ) → length payload < 65532 → record_length (record_of kind payload ++ rest) ≡ some (4 + length payload)
+  pub record-whole : (rest : List ℕ) → length payload < 65532 → record_length (record_of kind payload ++ rest) ≡ Some (4 + length payload)
   record-whole rest few =
       let all = length-append (record_of kind payload) rest in
       let len : u16 (record_of kind payload ++ rest) 0 ≡ 4 + length payload =
@@ -106,7 +106,7 @@ module _ (kind w : ℕ) (wide : Wide kind w) where
   number-length : (n : ℕ) → length (record_of kind (bytes_of w n)) ≡ 4 + w
   number-length n = omega (arith, length-record kind (bytes_of w n), length-bytes w n)
 
-  pub number-back : (n : ℕ) → n < 256 ^ w → payload_of Shape.Number (record_of kind (bytes_of w n)) ≡ some (number n)
+  pub number-back : (n : ℕ) → n < 256 ^ w → payload_of Shape.Number (record_of kind (bytes_of w n)) ≡ Some (number n)
   unfolding payload_of
   number-back n fits =
       let s = record_of kind (bytes_of w n) in
@@ -115,13 +115,13 @@ module _ (kind w : ℕ) (wide : Wide kind w) where
       rw (long, number_read n fits)
 
 module _ (kind : ℕ) where
-  pub lock-back : Wide kind 4 → (n : ℕ) → IsLock n → payload_of Shape.Lock (record_of kind (bytes_of 4 n)) ≡ some (number n)
+  pub lock-back : Wide kind 4 → (n : ℕ) → IsLock n → payload_of Shape.Lock (record_of kind (bytes_of 4 n)) ≡ Some (number n)
   unfolding payload_of
   lock-back wide n fits =
       let s = record_of kind (bytes_of 4 n) in
       rw (eq-eqb (length s) 8 (number-length kind 4 wide n), number_read kind 4 wide n (omega arith), le-leb 1 n fits.0, le-leb n max_lock fits.1)
 
-  pub children-back : (cs : List ℕ) → AllBelow 65536 cs → children_payload (length cs) (record_of kind (in_row 2 cs)) ≡ some (children cs)
+  pub children-back : (cs : List ℕ) → AllBelow 65536 cs → children_payload (length cs) (record_of kind (in_row 2 cs)) ≡ Some (children cs)
   children-back cs below =
       let s = record_of kind (in_row 2 cs) in
       let row : in_row 2 cs ≡ [] ++ (in_row 2 cs ++ []) = sym (append-nil (in_row 2 cs)) in
@@ -164,7 +164,7 @@ module _ (kind : ℕ) where
         )
 
   pub threshold-back : (k : ℕ) (cs : List ℕ) → IsThreshold k (length cs) → AllBelow 65536 cs
-      → payload_of Shape.Threshold (threshold_record 2 k cs) ≡ some (threshold k cs)
+      → payload_of Shape.Threshold (threshold_record 2 k cs) ≡ Some (threshold k cs)
   unfolding payload_of
   threshold-back k cs fits below =
       let front = k_and_n k (length cs) in
@@ -172,7 +172,7 @@ module _ (kind : ℕ) where
       rw (threshold-fits 2 k cs fits, (k-and-n 2 k cs fits).0, (k-and-n 2 k cs fits).1, row)
 
   pub keys-back : (w : ℕ) → Wide kind w → (k : ℕ) (ks : List ℕ) → IsThreshold k (length ks) → AllBelow (256 ^ w) ks
-      → payload_of Shape.Keys (threshold_record w k ks) ≡ some (keys k ks)
+      → payload_of Shape.Keys (threshold_record w k ks) ≡ Some (keys k ks)
   unfolding payload_of
   keys-back w wide k ks fits below =
       let front = k_and_n k (length ks) in

@@ -2,7 +2,7 @@
 use mathlib.Core.Path.{◌≡◌, refl, sym, ap, ◌∙◌}
 use mathlib.Core.Bool.{true, cond}
 use mathlib.Core.List.{List, [], ◌∷◌, ◌++◌, append-nil}
-use mathlib.Core.Option.{none, some}
+use Rattle.std.specs.Prelude.{None, Some}
 use Prim.Native.Nat.{ℕ, zero, suc, ◌+◌, ◌-◌, ◌^◌, ◌<◌, ◌≤◌}
 use native.Mathlib.Omega.{arith}
 use lib.ListN.{length, replicate, length-append}
@@ -33,7 +33,7 @@ use Rattle.writing.proofs.NodeReading.{Says, Reads, reads-node}
 
 -- the number of a fragment's kind, with the shape of its payload
 abbrev Known : ℕ → Shape → Type 0
-Known kind shape = (is_fragment_kind (meant kind) ≡ true) × (shape_of (meant kind) ≡ some shape) × (kind < 65536)
+Known kind shape = (is_fragment_kind (meant kind) ≡ true) × (shape_of (meant kind) ≡ Some shape) × (kind < 65536)
 
 payload-as : (kind : ℕ) (payload : List ℕ) {shape : Shape} → Known kind shape
     → fragment_payload (record_of kind payload) ≡ payload_of shape (record_of kind payload)
@@ -50,20 +50,20 @@ Read = Reads make_fragment
 
 module _ (kind : ℕ) {shape : Shape} (known : Known kind shape) where
   leaf-says : (bytes : List ℕ) (payload : Payload) {x : Fragment} → length bytes < 65532
-      → payload_of shape (record_of kind bytes) ≡ some payload → children_of payload ≡ [] → Makes kind payload [] x
+      → payload_of shape (record_of kind bytes) ≡ Some payload → children_of payload ≡ [] → Makes kind payload [] x
       → Says make_fragment kind bytes [] x
   unfolding in_row
   leaf-says bytes payload {x} few e none-there made = record { is-u16 = known.2; few = omega arith; says = says }
     where
       says : (cs : List ℕ) → length cs ≡ 0 → AllBelow 65536 cs
-          → (payload : Payload) × (fragment_payload (record_of kind (bytes ++ in_row 2 cs)) ≡ some payload) × (children_of payload ≡ cs)
+          → (payload : Payload) × (fragment_payload (record_of kind (bytes ++ in_row 2 cs)) ≡ Some payload) × (children_of payload ≡ cs)
           × Makes kind payload [] x
       says [] l below = (payload, rw append-nil (payload-as kind bytes known ∙ e), none-there, made)
       says (c ∷ cs) l below = absurd (omega arith)
 
   -- a leaf is read
   leaf-read : (bytes : List ℕ) (payload : Payload) {x : Fragment} → length bytes < 65532
-      → payload_of shape (record_of kind bytes) ≡ some payload → children_of payload ≡ [] → Makes kind payload [] x → Read (leaf kind bytes) x
+      → payload_of shape (record_of kind bytes) ≡ Some payload → children_of payload ≡ [] → Makes kind payload [] x → Read (leaf kind bytes) x
   leaf-read bytes payload few e none-there made = reads-node make_fragment kind bytes no_more (leaf-says bytes payload few e none-there made)
 
   -- a record over children that are read is read
@@ -74,13 +74,13 @@ module _ (kind : ℕ) {shape : Shape} (known : Known kind shape) where
       reads-node make_fragment kind [] rs (record { is-u16 = known.2; few = omega arith; says = says })
     where
       says : (cs : List ℕ) → length cs ≡ length xs → AllBelow 65536 cs
-          → (payload : Payload) × (fragment_payload (record_of kind (in_row 2 cs)) ≡ some payload) × (children_of payload ≡ cs)
+          → (payload : Payload) × (fragment_payload (record_of kind (in_row 2 cs)) ≡ Some payload) × (children_of payload ≡ cs)
           × Makes kind payload xs x
       says cs l below =
           let s = record_of kind (in_row 2 cs) in
           (children cs, payload-as kind (in_row 2 cs) known ∙ shaped s ∙ rw (← l) (children-back kind cs below), refl, made cs)
 
-plain_back : (kind : ℕ) → payload_of Shape.Nothing (record_of kind []) ≡ some nothing
+plain_back : (kind : ℕ) → payload_of Shape.Nothing (record_of kind []) ≡ Some nothing
 unfolding payload_of bytes_of
 plain_back kind = refl
 
@@ -135,7 +135,7 @@ thresh-read k xs {ts} fits rs =
     front = k_and_n k (length (to_list xs))
 
     says : (cs : List ℕ) → length cs ≡ length (to_list xs) → AllBelow 65536 cs
-        → (payload : Payload) × (fragment_payload (record_of 56 (front ++ in_row 2 cs)) ≡ some payload) × (children_of payload ≡ cs)
+        → (payload : Payload) × (fragment_payload (record_of 56 (front ++ in_row 2 cs)) ≡ Some payload) × (children_of payload ≡ cs)
         × Makes 56 payload (to_list xs) (Thresh k xs)
     says cs l below = (
       threshold k cs,
@@ -219,7 +219,7 @@ mutual
 
 -- ---- the root
 
-root-trace : (n : ℕ) (x : Fragment) → root_of (replicate n none ++ (some x ∷ [])) ≡ some x
+root-trace : (n : ℕ) (x : Fragment) → root_of (replicate n None ++ (Some x ∷ [])) ≡ Some x
 unfolding root_of
 root-trace zero x = refl
 root-trace (suc zero) x = refl

@@ -1,7 +1,7 @@
 -- A tree that is read has no more records than may begin: each record read is one of the tree's, and is there once. Assumes nothing.
 use mathlib.Core.Path.{◌≡◌, refl}
 use mathlib.Core.List.{List, [], ◌∷◌, ◌++◌}
-use mathlib.Core.Option.{Option, none, some}
+use Rattle.std.specs.Prelude.{Option, None, Some}
 use Prim.Native.Nat.{ℕ, zero, suc, ◌+◌, ◌≤◌}
 use native.Mathlib.Omega.{arith}
 use lib.ListN.{get_or, set, take, drop}
@@ -25,8 +25,8 @@ sizes [] = 0
 sizes (x ∷ xs) = size x + sizes xs
 
 abbrev held : Option Fragment → ℕ
-held none = 0
-held (some x) = size x
+held None = 0
+held (Some x) = size x
 
 unfoldable weight : Slots Fragment → ℕ
 weight [] = 0
@@ -34,49 +34,49 @@ weight (o ∷ slots) = held o + weight slots
 
 -- ---- slots
 
-weight-without : (slots : Slots Fragment) (j : ℕ) → held (get_or slots j none) + weight (set slots j none) ≡ weight slots
+weight-without : (slots : Slots Fragment) (j : ℕ) → held (get_or slots j None) + weight (set slots j None) ≡ weight slots
 unfolding weight
 weight-without [] j = refl
 weight-without (o ∷ slots) zero = omega arith
 weight-without (o ∷ slots) (suc j) = omega (arith, weight-without slots j)
 
-weight-with : (slots : Slots Fragment) (x : Fragment) → weight (slots ++ (some x ∷ [])) ≡ weight slots + size x
+weight-with : (slots : Slots Fragment) (x : Fragment) → weight (slots ++ (Some x ∷ [])) ≡ weight slots + size x
 unfolding weight
 weight-with [] x = omega arith
 weight-with (o ∷ slots) x = omega (arith, weight-with slots x)
 
-weight-root : (slots : Slots Fragment) {x : Fragment} → root_of slots ≡ some x → size x ≤ weight slots
+weight-root : (slots : Slots Fragment) {x : Fragment} → root_of slots ≡ Some x → size x ≤ weight slots
 unfolding weight root_of
 weight-root [] e = absurd (no-some e)
 weight-root (o ∷ []) {x} e = rw e (omega arith)
-weight-root (none ∷ o ∷ slots) e = omega (arith, weight-root (o ∷ slots) e)
-weight-root (some y ∷ o ∷ slots) e = absurd (no-some e)
+weight-root (None ∷ o ∷ slots) e = omega (arith, weight-root (o ∷ slots) e)
+weight-root (Some y ∷ o ∷ slots) e = absurd (no-some e)
 
-weight-taken : (js : List ℕ) (slots : Slots Fragment) {t : Taken Fragment} → take_all js slots ≡ some t
+weight-taken : (js : List ℕ) (slots : Slots Fragment) {t : Taken Fragment} → take_all js slots ≡ Some t
     → sizes t.those + weight t.left ≡ weight slots
 unfolding take_all sizes
 weight-taken [] slots {t} e =
     let same : t ≡ record { those = []; left = slots } = cc in
     rw same (omega arith)
 weight-taken (j ∷ js) slots {t} e =
-    by_first (get_or slots j none) (take_all js (set slots j none)) (weight-without slots j)
-    (λ u same. weight-taken js (set slots j none) {t = u} same) refl e
+    by_first (get_or slots j None) (take_all js (set slots j None)) (weight-without slots j)
+    (λ u same. weight-taken js (set slots j None) {t = u} same) refl e
   where
-    by_first : (o : Option Fragment) (others : Option (Taken Fragment)) → held o + weight (set slots j none) ≡ weight slots
-        → ((u : Taken Fragment) → take_all js (set slots j none) ≡ some u → sizes u.those + weight u.left ≡ weight (set slots j none))
-        → take_all js (set slots j none) ≡ others → and_first o others ≡ some t → sizes t.those + weight t.left ≡ weight slots
-    by_first (some x) (some u) w rests same e =
+    by_first : (o : Option Fragment) (others : Option (Taken Fragment)) → held o + weight (set slots j None) ≡ weight slots
+        → ((u : Taken Fragment) → take_all js (set slots j None) ≡ Some u → sizes u.those + weight u.left ≡ weight (set slots j None))
+        → take_all js (set slots j None) ≡ others → and_first o others ≡ Some t → sizes t.those + weight t.left ≡ weight slots
+    by_first (Some x) (Some u) w rests same e =
         let rest = rests u same in
         let is : t ≡ record { those = x ∷ u.those; left = u.left } = cc in
         rw is (omega arith)
-    by_first (some x) none w rests same e = absurd (no-some e)
-    by_first none others w rests same e = absurd (no-some e)
+    by_first (Some x) None w rests same e = absurd (no-some e)
+    by_first None others w rests same e = absurd (no-some e)
 
 -- ---- makers
 
 -- what is made of some trees has one record more than they
 abbrev OneMore : ℕ → Maker → Type 0
-OneMore kind maker = (payload : Payload) (xs : List Fragment) (x : Fragment) → maker payload xs ≡ some x → size x ≡ sizes xs + 1
+OneMore kind maker = (payload : Payload) (xs : List Fragment) (x : Fragment) → maker payload xs ≡ Some x → size x ≡ sizes xs + 1
 
 carried : {x y : Fragment} {xs ys : List Fragment} → xs ≡ ys → x ≡ y → size y ≡ sizes ys + 1 → size x ≡ sizes xs + 1
 carried e₁ e₂ w = rw (e₁, e₂) w

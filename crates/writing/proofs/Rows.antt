@@ -2,7 +2,7 @@
 use mathlib.Core.Path.{◌≡◌, refl, ◌∙◌}
 use mathlib.Core.Bool.{true}
 use mathlib.Core.List.{List, [], ◌∷◌, ◌++◌, append_assoc}
-use mathlib.Core.Option.{some}
+use Rattle.std.specs.Prelude.{Some}
 use Prim.Native.Nat.{ℕ, suc, ◌+◌, ◌*◌, ◌^◌, ◌<◌, ◌≤◌}
 use native.Mathlib.Omega.{arith}
 use borrow.Author.Tests.{le-leb}
@@ -36,7 +36,7 @@ module _ (width v : ℕ) (p q : List ℕ) (at : ℕ) (e : length p ≡ at) where
       written width holding at v number-room ∙ sets-eq (bytes_of width v) holding at room
       ∙ rw (past, take_at p (bytes_of width v ++ q) at e) (append_assoc p (bytes_of width v) q)
 
-  pub number-at : v < 256 ^ width → le_at width (p ++ (bytes_of width v ++ q)) at ≡ some v
+  pub number-at : v < 256 ^ width → le_at width (p ++ (bytes_of width v ++ q)) at ≡ Some v
   number-at f = rw number-there at (read_back width holding at v number-room f)
 
 pub length-row : (width : ℕ) (ns : List ℕ) → length (in_row width ns) ≡ width * length ns

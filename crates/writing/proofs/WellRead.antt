@@ -2,7 +2,7 @@
 use mathlib.Core.Path.{◌≡◌, refl, sym, ap, subst, ◌∙◌}
 use mathlib.Core.Bool.{Bool, true, false}
 use mathlib.Core.List.{List, [], ◌∷◌}
-use mathlib.Core.Option.{some}
+use Rattle.std.specs.Prelude.{Some}
 use Prim.Native.Nat.{ℕ, zero, suc, ◌+◌, ◌*◌, ◌^◌, ◌<◌, ◌≤◌}
 use native.Mathlib.Nat.{pow-suc}
 use native.Mathlib.Omega.{arith}
@@ -95,41 +95,41 @@ short-below s h e = rw e (number-below 4 s 4 h)
 -- what a maker makes of a record of this kind is well formed
 abbrev Fine : ℕ → Maker → Type 0
 Fine kind maker = (s : List ℕ) (payload : Payload) (xs : List Fragment) (x : Fragment) → AllBelow 256 s → kind_of s ≡ kind
-    → fragment_payload s ≡ some payload → length xs ≡ length (children_of payload) → maker payload xs ≡ some x → All WellFormed xs → WellFormed x
+    → fragment_payload s ≡ Some payload → length xs ≡ length (children_of payload) → maker payload xs ≡ Some x → All WellFormed xs → WellFormed x
 
 -- a record is of its kind's shape
-shape-known : (kind : ℕ) (s : List ℕ) {shape : Shape} {payload : Payload} → shape_of kind ≡ some shape → kind_of s ≡ kind
-    → fragment_payload s ≡ some payload → payload_of shape s ≡ some payload
+shape-known : (kind : ℕ) (s : List ℕ) {shape : Shape} {payload : Payload} → shape_of kind ≡ Some shape → kind_of s ≡ kind
+    → fragment_payload s ≡ Some payload → payload_of shape s ≡ Some payload
 shape-known kind s known k e = rw (k, known) at (fragment-record s e).1
 
 module _ (kind : ℕ) where
   plain-fine : (f : Fragment) → WellFormed f → Fine kind (plain f)
   plain-fine f w s payload xs x bytes k e l m all = rw (plain-made f payload xs m).1 w
 
-  key-fine : shape_of kind ≡ some Shape.Number → (f : ℕ → Fragment) → ((n : ℕ) → IsU64 n → WellFormed (f n)) → Fine kind (with_number f)
+  key-fine : shape_of kind ≡ Some Shape.Number → (f : ℕ → Fragment) → ((n : ℕ) → IsU64 n → WellFormed (f n)) → Fine kind (with_number f)
   key-fine known f w s payload xs x bytes k e l m all =
       let this = is_number s (shape-known kind s known k e) in
       rw ((number-made f payload xs m).1, this) (w (number_in s) (key_below s bytes))
 
-  hash-fine : 38 ≤ kind → kind ≤ 41 → shape_of kind ≡ some Shape.Number → (f : ℕ → Fragment) → ((n : ℕ) → IsU32 n → WellFormed (f n))
+  hash-fine : 38 ≤ kind → kind ≤ 41 → shape_of kind ≡ Some Shape.Number → (f : ℕ → Fragment) → ((n : ℕ) → IsU32 n → WellFormed (f n))
       → Fine kind (with_number f)
   hash-fine low high known f w s payload xs x bytes k e l m all =
       let this = is_number s (shape-known kind s known k e) in
       rw ((number-made f payload xs m).1, this)
       (w (number_in s) (short-below s bytes (short-fragment s (omega (arith, k)) (omega (arith, k)))))
 
-  lock-fine : shape_of kind ≡ some Shape.Lock → (f : ℕ → Fragment) → ((n : ℕ) → IsLock n → WellFormed (f n)) → Fine kind (with_number f)
+  lock-fine : shape_of kind ≡ Some Shape.Lock → (f : ℕ → Fragment) → ((n : ℕ) → IsLock n → WellFormed (f n)) → Fine kind (with_number f)
   lock-fine known f w s payload xs x bytes k e l m all =
       let shaped = shape-known kind s known k e in
       let this = is-lock s shaped in
-      rw ((number-made f payload xs m).1, this) (w (number_in s) (lock-bounds s (shaped ∙ ap some this)))
+      rw ((number-made f payload xs m).1, this) (w (number_in s) (lock-bounds s (shaped ∙ ap Some this)))
 
-  keys-fine : shape_of kind ≡ some Shape.Keys → (f : ℕ → List ℕ → Fragment)
+  keys-fine : shape_of kind ≡ Some Shape.Keys → (f : ℕ → List ℕ → Fragment)
       → ((k : ℕ) (ks : List ℕ) → IsThreshold k (length ks) × AllBelow (2 ^ 64) ks → WellFormed (f k ks)) → Fine kind (of_keys f)
   keys-fine known f w s payload xs x bytes k e l m all =
       let shaped = shape-known kind s known k e in
       let this = is-keys s shaped in
-      let bounds = keys-bounds s (shaped ∙ ap some this) in
+      let bounds = keys-bounds s (shaped ∙ ap Some this) in
       rw ((keys-made f payload xs m).1, this) (w (u16 s 4) (keys_in s) (bounds, keys_below s bytes))
 
   one-fine : (f : Fragment → Fragment) → ((x : Fragment) → WellFormed x → WellFormed (f x)) → Fine kind (one f)
@@ -170,7 +170,7 @@ thresh-fine s payload xs x bytes k e l m all =
     let as-threshold = shape-known 56 s refl k e in
     let this = is-threshold s as-threshold in
     let first = u16 s 4 in
-    let bounds = threshold-bounds s (as-threshold ∙ ap some this) in
+    let bounds = threshold-bounds s (as-threshold ∙ ap Some this) in
     let same : Thresh first (fragments xs) ≡ x = cc this in
     let n : length (to_list (fragments xs)) ≡ length (children_of payload) = as_many xs ∙ l in
     let fits : IsThreshold first (length (to_list (fragments xs))) = rw (n, this) bounds in

@@ -6,9 +6,6 @@ use Rattle.accept_entry.proofs.accept_meaning.Goals as goal
 pub add_policy-second-requires : goal.add_policy-second-requires
 add_policy-second-requires c = (c.requires.0.0, (c.requires.0.1, c.none_yet-first.ensures.roomy))
 
-pub add_tree-all-requires : goal.add_tree-all-requires
-add_tree-all-requires c = (c.requires.1.0, c.add_policy-second.ensures.roomy)
-
 pub returns-then-all : goal.returns-then-all
 returns-then-all c = record {
   verdict = too_many_lem (gathered-both (policy_at c.args.pol.now c.args.root) c.none_yet-first.ensures.gathered c.add_policy-second.ensures.gathered c.add_tree-all.ensures.gathered) c.add_tree-all.ensures.roomy c.if-all.true;
@@ -18,14 +15,14 @@ returns-then-all c = record {
 pub alike-requires : goal.alike-requires
 alike-requires c = (c.requires.0, (c.requires.1.0, (c.requires.1.1, c.add_tree-all.ensures.roomy)))
 
-pub returns-then-alike : goal.returns-then-alike
-returns-then-alike c = record {
-  verdict = alike (gathered-both (policy_at c.args.pol.now c.args.root) c.none_yet-first.ensures.gathered c.add_policy-second.ensures.gathered c.add_tree-all.ensures.gathered) c.add_tree-all.ensures.roomy c.if-all.false c.alike.ensures.says c.if-alike.true;
+pub returns-then-not-alike : goal.returns-then-not-alike
+returns-then-not-alike c = record {
+  verdict = not_alike (gathered-both (policy_at c.args.pol.now c.args.root) c.none_yet-first.ensures.gathered c.add_policy-second.ensures.gathered c.add_tree-all.ensures.gathered) c.add_tree-all.ensures.roomy c.if-all.false c.alike.ensures.says c.if-not-alike.true;
   work_len_unchanged = c.alike.ensures.work_len_unchanged;
 }
 
 pub returns : goal.returns
 returns c = record {
-  verdict = not_alike (gathered-both (policy_at c.args.pol.now c.args.root) c.none_yet-first.ensures.gathered c.add_policy-second.ensures.gathered c.add_tree-all.ensures.gathered) c.add_tree-all.ensures.roomy c.if-all.false c.alike.ensures.says c.if-alike.false;
+  verdict = alike (gathered-both (policy_at c.args.pol.now c.args.root) c.none_yet-first.ensures.gathered c.add_policy-second.ensures.gathered c.add_tree-all.ensures.gathered) c.add_tree-all.ensures.roomy c.if-all.false c.alike.ensures.says c.if-not-alike.false;
   work_len_unchanged = c.alike.ensures.work_len_unchanged;
 }

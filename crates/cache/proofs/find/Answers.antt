@@ -4,28 +4,16 @@ use native.Mathlib.Omega.{arith}
 use Rattle.cache.proofs.Tables.{here-below, older-below, find_none}
 use Rattle.cache.proofs.find.Goals as goal
 
-pub bounds-work-1 : goal.bounds-work-1
-bounds-work-1 c = omega arith
-
 pub loop-n-init : goal.loop-n-init
 loop-n-init c = (c.requires.few, refl)
 
-pub overflow_sub-n : goal.overflow_sub-n
-overflow_sub-n c = omega arith
-
 pub same_key-requires : goal.same_key-requires
 same_key-requires c = (c.requires, (omega (arith, c.loop-n.invariant.0), c.key_start-start.ensures))
-
-pub overflow_cast-result : goal.overflow_cast-result
-overflow_cast-result c = omega (arith, c.loop-n.invariant.0)
 
 pub returns-then-same_key : goal.returns-then-same_key
 returns-then-same_key c = here-below c.args.work.now c.args.number c.args.sat c.args.dissat c.loop-n.n c.loop-n-test.true
     c.same_key.ensures c.if-same_key.true
     ∙ c.loop-n.invariant.1
-
-pub loop-n-smaller : goal.loop-n-smaller
-loop-n-smaller c = omega arith
 
 pub loop-n-preserved : goal.loop-n-preserved
 loop-n-preserved c = (

@@ -7,6 +7,3 @@ use Rattle.cache.proofs.find.Given as goal
 
 abbrev pub invariant-loop-n : goal.invariant-loop-n
 invariant-loop-n l = (l.n ≤ max_tables) × (find_up_to l.work l.n l.number l.sat l.dissat ≡ find_in l.work l.number l.sat l.dissat)
-
-abbrev pub decreases-loop-n : goal.decreases-loop-n
-decreases-loop-n l = l.n

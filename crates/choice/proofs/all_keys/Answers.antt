@@ -7,17 +7,11 @@ use Rattle.choice.proofs.all_keys.Goals as goal
 pub loop-i-init : goal.loop-i-init
 loop-i-init c = telling-starts (policy_at c.args.pol.now c.args.r)
 
-pub returns-then-head-ne-KEY : goal.returns-then-head-ne-KEY
-returns-then-head-ne-KEY c = telling-other c.requires.0 c.args.r c.requires.1.0 c.loop-i.invariant (omega (arith, c.requires.1.1.1)) c.child-c.ensures c.head_of-head.ensures c.if-head-ne-KEY.true
-
-pub overflow_add-i : goal.overflow_add-i
-overflow_add-i c = omega arith
-
-pub loop-i-smaller : goal.loop-i-smaller
-loop-i-smaller c = omega arith
+pub returns-then-head_of-ne-KEY : goal.returns-then-head_of-ne-KEY
+returns-then-head_of-ne-KEY c = telling-other c.requires.0 c.args.r c.requires.1.0 c.loop-i.invariant (omega (arith, c.requires.1.1.1)) c.child-c.ensures c.head_of.ensures c.if-head_of-ne-KEY.true
 
 pub loop-i-preserved : goal.loop-i-preserved
-loop-i-preserved c = telling-on c.requires.0 c.args.r c.requires.1.0 c.loop-i.invariant (omega (arith, c.requires.1.1.1)) c.child-c.ensures c.head_of-head.ensures c.if-head-ne-KEY.false
+loop-i-preserved c = telling-on c.requires.0 c.args.r c.requires.1.0 c.loop-i.invariant (omega (arith, c.requires.1.1.1)) c.child-c.ensures c.head_of.ensures c.if-head_of-ne-KEY.false
 
 pub returns : goal.returns
 returns c = telling-ends c.loop-i.invariant (omega (arith, c.requires.1.1.1))

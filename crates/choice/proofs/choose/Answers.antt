@@ -5,25 +5,11 @@ use Rattle.definition.specs.Tables.{probs}
 use Rattle.choice.proofs.Choosing.{choosing-starts, choosing-on, choosing-ends}
 use Rattle.choice.proofs.choose.Goals as goal
 
--- Assumes nothing.
-
-pub length_of-i-requires : goal.length_of-i-requires
-length_of-i-requires c = (c.requires.0, c.requires.1.0)
-
 pub loop-i-init : goal.loop-i-init
 loop-i-init c = choosing-starts c.args.work.now c.args.s (probs c.args.sat c.args.dissat) c.args.want c.length_of-i.ensures
 
-pub overflow_sub-i : goal.overflow_sub-i
-overflow_sub-i c = omega arith
-
 pub entry-e-requires : goal.entry-e-requires
 entry-e-requires c = (c.requires.0, (c.requires.1.0, omega (arith, c.loop-i.invariant.few)))
-
-pub next-best-requires : goal.next-best-requires
-next-best-requires c = c.requires.0.long
-
-pub loop-i-smaller : goal.loop-i-smaller
-loop-i-smaller c = omega arith
 
 pub loop-i-preserved : goal.loop-i-preserved
 loop-i-preserved c = choosing-on c.loop-i.invariant c.loop-i-test.true c.entry-e.ensures c.next-best.ensures

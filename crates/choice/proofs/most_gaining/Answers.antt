@@ -1,35 +1,12 @@
 -- `choice::most_gaining` meets its contract: it goes over the children with what is still to come. Assumes nothing.
 use Rattle.std.proofs.Common.{rules}
-use native.Mathlib.Omega.{arith}
 use Rattle.definition.specs.Tables.{probs}
 use Rattle.choice.proofs.Arranging.{infinite, gaining-starts, gaining-gains, gaining-other, gaining-ends}
 use Rattle.choice.proofs.most_gaining.Goals as goal
 use Rattle.choice.proofs.most_gaining.Goals.{then-d-least, else-d-least}
 
 pub loop-i-init : goal.loop-i-init
-loop-i-init c = gaining-starts c.args.work.now (probs c.args.sat c.args.dissat) c.args.es c.args.ws c.args.n (search rules) (search rules) (c.requires) _
-    infinite
-
-pub offset_bounds-es-i : goal.offset_bounds-es-i
-offset_bounds-es-i c = omega arith
-
-pub bounds-es-i : goal.bounds-es-i
-bounds-es-i c = omega arith
-
-pub offset_bounds-ws-i : goal.offset_bounds-ws-i
-offset_bounds-ws-i c = omega arith
-
-pub bounds-ws-i : goal.bounds-ws-i
-bounds-ws-i c = omega arith
-
-pub gain-d-requires : goal.gain-d-requires
-gain-d-requires c = c.requires.0
-
-pub overflow_add-i : goal.overflow_add-i
-overflow_add-i c = omega arith
-
-pub loop-i-smaller : goal.loop-i-smaller
-loop-i-smaller c = omega arith
+loop-i-init c = gaining-starts c.args.work.now (probs c.args.sat c.args.dissat) c.args.es c.args.ws c.args.n (search rules) (search rules) c.requires _ infinite
 
 pub loop-i-preserved : goal.loop-i-preserved
 loop-i-preserved c =

@@ -3,7 +3,7 @@ use Rattle.choice.proofs.Choosing.{node-small, price-is}
 use Rattle.choice.proofs.price.Goals as goal
 
 pub cost_at-requires : goal.cost_at-requires
-cost_at-requires c = node-small c.args.work.now c.args.e c.node-x.ensures
+cost_at-requires c = node-small c.args.work.now c.args.e c.node.ensures
 
 pub returns : goal.returns
-returns c = price-is c.args.work.now c.args.e c.args.sat c.args.dissat c.node-x.ensures c.cost_at.ensures
+returns c = price-is c.args.work.now c.args.e c.args.sat c.args.dissat c.node.ensures c.cost_at.ensures

@@ -1,19 +1,23 @@
 -- `choice::thresh_with` meets its contract. Assumes nothing.
+use Rattle.std.proofs.lemmas.Result.{err_from_is_err_and}
 use native.Mathlib.Omega.{arith}
-use lib.ListN.{take, length-take}
+use lib.ListN.{length}
 use Rattle.choice.proofs.Threshes.{with-ill, with-missing, with-made}
 use Rattle.choice.proofs.thresh_with.Goals as goal
 
-pub returns-in-IllTyped : goal.returns-in-IllTyped
-returns-in-IllTyped c = with-ill c.args.work.now c.args.r c.args.k c.args.n (take c.args.n c.args.row) c.args.ext c.requires.1 _ c.types_of-types.ensures
-    c.threshold.ensures c.in-IllTyped.is
+pub returns-in_default : goal.returns-in_default
+returns-in_default c = with-ill c.args.work.now c.args.r c.args.k (length c.args.row.now) c.args.row.now c.args.ext c.requires.1 _ c.types_of.ensures
+    c.threshold.ensures c.in_default.not-Ok
 
-pub returns-in-Missing : goal.returns-in-Missing
-returns-in-Missing c = with-missing c.args.work.now c.args.r c.args.k c.args.n (take c.args.n c.args.row) c.args.ext c.requires.1 _ c.types_of-types.ensures
-    c.threshold.ensures _ _ c.in-Ok.is (omega (arith, length-take c.args.n c.args.row)) c.costs_of-costs.ensures c.threshold-in-Ok.ensures
-    c.in-Missing.is
+pub returns-in_err-cost : goal.returns-in_err-cost
+returns-in_err-cost c =
+    let p = err_from_is_err_and c.from_residual.result c.from_residual.ensures.1 in
+    rw (p.1, p.2)
+    (with-missing c.args.work.now c.args.r c.args.k (length c.args.row.now) c.args.row.now c.args.ext c.requires.1 _ c.types_of.ensures
+    c.threshold.ensures _ _ c.in-Ok.is (omega arith) c.costs_of.ensures c.threshold-2.ensures
+    c.ok_or.ensures.value c.in_err-cost.was)
 
-pub returns-in-Cost : goal.returns-in-Cost
-returns-in-Cost c = with-made c.args.work.now c.args.r c.args.k c.args.n (take c.args.n c.args.row) c.args.ext c.requires.1 _ c.types_of-types.ensures
-    c.threshold.ensures _ _ c.in-Ok.is (omega (arith, length-take c.args.n c.args.row)) c.costs_of-costs.ensures c.threshold-in-Ok.ensures _
-    c.in-Cost.is
+pub returns : goal.returns
+returns c = with-made c.args.work.now c.args.r c.args.k (length c.args.row.now) c.args.row.now c.args.ext c.requires.1 _ c.types_of.ensures
+    c.threshold.ensures _ _ c.in-Ok.is (omega arith) c.costs_of.ensures c.threshold-2.ensures
+    c.ok_or.ensures.value c.in_ok-cost.was

@@ -5,36 +5,12 @@ use lib.ListN.{length-set}
 use Rattle.chosen.proofs.Filling.{fill-starts, cleared-long, start-long, fill_more, fill-ends}
 use Rattle.chosen.proofs.hold.Goals as goal
 
-pub bounds-work-0 : goal.bounds-work-0
-bounds-work-0 c = omega (arith, cleared-long c.args.bytes.now c.args.n c.args.work.now _ c.clear.ensures c.requires.work_len.0)
-
 pub loop-i-init : goal.loop-i-init
 loop-i-init c = (
   fill-starts c.args.bytes.now c.args.n c.args.work.now _ c.clear.ensures c.requires.work_len.0,
   start-long c.args.bytes.now c.args.n c.args.work.now _ c.clear.ensures c.requires.work_len.0,
   omega arith,
 )
-
-pub overflow_mul-i : goal.overflow_mul-i
-overflow_mul-i c = omega arith
-
-pub overflow_mul-i-in-loop-i : goal.overflow_mul-i-in-loop-i
-overflow_mul-i-in-loop-i c = omega arith
-
-pub overflow_add-work : goal.overflow_add-work
-overflow_add-work c = omega arith
-
-pub offset_bounds-work-i : goal.offset_bounds-work-i
-offset_bounds-work-i c = omega arith
-
-pub bounds-work-i : goal.bounds-work-i
-bounds-work-i c = omega arith
-
-pub overflow_add-i : goal.overflow_add-i
-overflow_add-i c = omega arith
-
-pub loop-i-smaller : goal.loop-i-smaller
-loop-i-smaller c = omega arith
 
 pub loop-i-preserved : goal.loop-i-preserved
 loop-i-preserved c = (

@@ -8,6 +8,3 @@ use Rattle.chosen.proofs.hold.Given as goal
 
 abbrev pub invariant-loop-i : goal.invariant-loop-i
 invariant-loop-i l = Filled l.bytes l.n l.work l.i × (length l.work ≡ work_words) × (8 * l.i ≤ l.n + 7)
-
-abbrev pub decreases-loop-i : goal.decreases-loop-i
-decreases-loop-i l = l.n - 8 * l.i

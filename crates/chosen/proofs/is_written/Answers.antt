@@ -25,18 +25,15 @@ pub returns-in_default : goal.returns-in_default
 returns-in_default c = sym (progress-broken c.loop-at.invariant (stop-told c.next_record.ensures c.in_default.is))
 
 pub overflow_add-at : goal.overflow_add-at
-overflow_add-at c = let told = next-told c.next_record.ensures c.in-Next.is in
+overflow_add-at c = let told = next-told c.next_record.ensures c.in-Some.is in
     omega (arith, progress-later c.loop-at.invariant told.0, (length-take-le c.args.n (room_in c.args.work.now) (omega (arith, room_whole c.args.work.now c.requires.0))))
 
-pub overflow_add-own : goal.overflow_add-own
-overflow_add-own c = omega (arith, c.loop-at.invariant.few)
-
 pub loop-at-smaller : goal.loop-at-smaller
-loop-at-smaller c = let told = next-told c.next_record.ensures c.in-Next.is in
+loop-at-smaller c = let told = next-told c.next_record.ensures c.in-Some.is in
     omega (arith, progress-later c.loop-at.invariant told.0, (length-take-le c.args.n (room_in c.args.work.now) (omega (arith, room_whole c.args.work.now c.requires.0))))
 
 pub loop-at-preserved : goal.loop-at-preserved
-loop-at-preserved c = let told = next-told c.next_record.ensures c.in-Next.is in
+loop-at-preserved c = let told = next-told c.next_record.ensures c.in-Some.is in
     progress-next c.loop-at.invariant (omega (arith, (length-take-le c.args.n (room_in c.args.work.now) (omega (arith, room_whole c.args.work.now c.requires.0))))) (omega (arith, c.loop-at.invariant.few)) _ _ _ told.0 told.1 told.2 told.3
 
 pub returns : goal.returns

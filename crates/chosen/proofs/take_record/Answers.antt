@@ -2,6 +2,7 @@
 use mathlib.Core.Bool.{false}
 use mathlib.Core.Path.{◌≡◌, sym, ap, ◌∙◌}
 use native.Mathlib.Omega.{arith}
+use borrow.Author.Tests.{not-true, not-false}
 use lib.ListN.{length-set}
 use Rattle.records.specs.Payloads.{written_kind}
 use Rattle.records.proofs.Arities.{Found, found, not_found, few-children}
@@ -15,32 +16,20 @@ pub returns-then-is_short : goal.returns-then-is_short
 returns-then-is_short c = broken (with-short _ _ _ (ap is_short (sym c.written_kind.ensures) ∙ sym c.is_short.ensures ∙ c.if-is_short.true)) c.requires.0
 
 pub last_are-requires : goal.last_are-requires
-last_are-requires c = (omega arith, few-children (found c.args.bytes.now c.fragment_parts-parts.ensures c.if-fits.true c.kind_of-kind.ensures c.arity-n.ensures))
+last_are-requires c = (omega arith, few-children (found c.args.bytes.now c.fragment_parts-parts.ensures (not-false _ c.if-not-parts.false) c.kind_of.ensures c.arity-n.ensures))
 
 pub overflow_sub-left : goal.overflow_sub-left
-overflow_sub-left c = roots-enough c.args.roots.now _ c.args.top _ (omega arith) (few-children (found c.args.bytes.now c.fragment_parts-parts.ensures c.if-fits.true c.kind_of-kind.ensures c.arity-n.ensures)) (children-wide (found c.args.bytes.now c.fragment_parts-parts.ensures c.if-fits.true c.kind_of-kind.ensures c.arity-n.ensures)) (sym c.last_are.ensures ∙ c.if-last_are.true)
+overflow_sub-left c = roots-enough c.args.roots.now _ c.args.top _ (omega arith) (few-children (found c.args.bytes.now c.fragment_parts-parts.ensures (not-false _ c.if-not-parts.false) c.kind_of.ensures c.arity-n.ensures)) (children-wide (found c.args.bytes.now c.fragment_parts-parts.ensures (not-false _ c.if-not-parts.false) c.kind_of.ensures c.arity-n.ensures)) (sym c.last_are.ensures ∙ c.if-not-last_are.false)
 
-pub overflow_cast-roots : goal.overflow_cast-roots
-overflow_cast-roots c = omega arith
+pub shape_of-roots : goal.shape_of-roots
+shape_of-roots c = simp length-set
 
-pub offset_bounds-roots-left : goal.offset_bounds-roots-left
-offset_bounds-roots-left c = omega arith
-
-pub bounds-roots-left : goal.bounds-roots-left
-bounds-roots-left c = omega arith
-
-pub overflow_add-result : goal.overflow_add-result
-overflow_add-result c = omega arith
-
-pub shape_of-roots-then-last_are : goal.shape_of-roots-then-last_are
-shape_of-roots-then-last_are c = simp length-set
-
-pub returns-then-last_are : goal.returns-then-last_are
-returns-then-last_are c = record-left c.args.roots.now c.args.top c.args.own (found c.args.bytes.now c.fragment_parts-parts.ensures c.if-fits.true c.kind_of-kind.ensures c.arity-n.ensures) (ap is_short (sym c.written_kind.ensures) ∙ sym c.is_short.ensures ∙ c.if-is_short.false) (omega arith) (sym c.last_are.ensures ∙ c.if-last_are.true) (omega arith)
+pub returns : goal.returns
+returns c = record-left c.args.roots.now c.args.top c.args.own (found c.args.bytes.now c.fragment_parts-parts.ensures (not-false _ c.if-not-parts.false) c.kind_of.ensures c.arity-n.ensures) (ap is_short (sym c.written_kind.ensures) ∙ sym c.is_short.ensures ∙ c.if-is_short.false) (omega arith) (sym c.last_are.ensures ∙ c.if-not-last_are.false) (omega arith)
     (omega arith) c.requires.0
 
-pub returns-else-last_are : goal.returns-else-last_are
-returns-else-last_are c = broken (record-untaken c.args.roots.now c.args.top c.args.own (found c.args.bytes.now c.fragment_parts-parts.ensures c.if-fits.true c.kind_of-kind.ensures c.arity-n.ensures) (ap is_short (sym c.written_kind.ensures) ∙ sym c.is_short.ensures ∙ c.if-is_short.false) (omega arith) (sym c.last_are.ensures ∙ c.if-last_are.false)) c.requires.0
+pub returns-then-not-last_are : goal.returns-then-not-last_are
+returns-then-not-last_are c = broken (record-untaken c.args.roots.now c.args.top c.args.own (found c.args.bytes.now c.fragment_parts-parts.ensures (not-false _ c.if-not-parts.false) c.kind_of.ensures c.arity-n.ensures) (ap is_short (sym c.written_kind.ensures) ∙ sym c.is_short.ensures ∙ c.if-is_short.false) (omega arith) (sym c.last_are.ensures ∙ c.if-not-last_are.true)) c.requires.0
 
-pub returns-else-fits : goal.returns-else-fits
-returns-else-fits c = broken (with-unfit _ _ _ (not_found c.args.bytes.now c.fragment_parts-parts.ensures c.if-fits.false)) c.requires.0
+pub returns-then-not-parts : goal.returns-then-not-parts
+returns-then-not-parts c = broken (with-unfit _ _ _ (not_found c.args.bytes.now c.fragment_parts-parts.ensures (not-true _ c.if-not-parts.true))) c.requires.0

@@ -6,27 +6,26 @@ use Rattle.chosen.proofs.Holding.{holds}
 use Rattle.chosen.proofs.Filling.{no_length, no-count, no-zeros, no-tree}
 use Rattle.chosen.proofs.tree_in.Goals as goal
 
-pub bounds-work-0 : goal.bounds-work-0
-bounds-work-0 c = omega arith
+pub returns-then-work-ne-WORK_WORDS : goal.returns-then-work-ne-WORK_WORDS
+returns-then-work-ne-WORK_WORDS c = nothing (no_length c.args.work.now c.if-work-ne-WORK_WORDS.true)
+
+pub returns-then-count-gt-TREE_BYTES : goal.returns-then-count-gt-TREE_BYTES
+returns-then-count-gt-TREE_BYTES c = nothing (no-count c.args.work.now c.if-work-ne-WORK_WORDS.false (omega arith))
 
 pub zero_behind-requires : goal.zero_behind-requires
-zero_behind-requires c = (c.if-work-eq-WORK_WORDS.true, c.if-count-le-TREE_BYTES.true)
+zero_behind-requires c = (c.if-work-ne-WORK_WORDS.false, c.if-count-gt-TREE_BYTES.false)
+
+pub returns-then-not-zero_behind : goal.returns-then-not-zero_behind
+returns-then-not-zero_behind c =
+    nothing (no-zeros c.args.work.now c.if-work-ne-WORK_WORDS.false c.if-count-gt-TREE_BYTES.false (sym c.zero_behind.ensures ∙ c.if-not-zero_behind.true))
 
 pub is_written-requires : goal.is_written-requires
-is_written-requires c = (c.if-work-eq-WORK_WORDS.true, c.if-count-le-TREE_BYTES.true)
+is_written-requires c = (c.if-work-ne-WORK_WORDS.false, c.if-count-gt-TREE_BYTES.false)
 
-pub returns-then-is_written : goal.returns-then-is_written
-returns-then-is_written c = bytes (holds c.args.work.now c.if-work-eq-WORK_WORDS.true c.if-count-le-TREE_BYTES.true (sym c.zero_behind.ensures ∙ c.if-zero_behind.true) (sym c.is_written.ensures ∙ c.if-is_written.true))
-    c.if-count-le-TREE_BYTES.true c.if-work-eq-WORK_WORDS.true
+pub returns-then-not-is_written : goal.returns-then-not-is_written
+returns-then-not-is_written c =
+    nothing (no-tree c.args.work.now c.if-work-ne-WORK_WORDS.false c.if-count-gt-TREE_BYTES.false (sym c.zero_behind.ensures ∙ c.if-not-zero_behind.false) (sym c.is_written.ensures ∙ c.if-not-is_written.true))
 
-pub returns-else-is_written : goal.returns-else-is_written
-returns-else-is_written c = nothing (no-tree c.args.work.now c.if-work-eq-WORK_WORDS.true c.if-count-le-TREE_BYTES.true (sym c.zero_behind.ensures ∙ c.if-zero_behind.true) (sym c.is_written.ensures ∙ c.if-is_written.false))
-
-pub returns-else-zero_behind : goal.returns-else-zero_behind
-returns-else-zero_behind c = nothing (no-zeros c.args.work.now c.if-work-eq-WORK_WORDS.true c.if-count-le-TREE_BYTES.true (sym c.zero_behind.ensures ∙ c.if-zero_behind.false))
-
-pub returns-else-count-le-TREE_BYTES : goal.returns-else-count-le-TREE_BYTES
-returns-else-count-le-TREE_BYTES c = nothing (no-count c.args.work.now c.if-work-eq-WORK_WORDS.true (omega arith))
-
-pub returns-else-work-eq-WORK_WORDS : goal.returns-else-work-eq-WORK_WORDS
-returns-else-work-eq-WORK_WORDS c = nothing (no_length c.args.work.now c.if-work-eq-WORK_WORDS.false)
+pub returns : goal.returns
+returns c = bytes (holds c.args.work.now c.if-work-ne-WORK_WORDS.false c.if-count-gt-TREE_BYTES.false (sym c.zero_behind.ensures ∙ c.if-not-zero_behind.false) (sym c.is_written.ensures ∙ c.if-not-is_written.false))
+    c.if-count-gt-TREE_BYTES.false c.if-work-ne-WORK_WORDS.false

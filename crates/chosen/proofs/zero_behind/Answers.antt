@@ -1,5 +1,6 @@
 -- `chosen::zero_behind` meets its contract: bytes up to the end of their word, then words. Assumes nothing.
-use mathlib.Core.Path.{refl, sym, ◌∙◌}
+use Prim.Native.Nat.{◌/◌}
+use mathlib.Core.Path.{◌≡◌, refl, sym, ◌∙◌}
 use native.Mathlib.Omega.{arith}
 use Rattle.chosen.specs.Form.{room_in}
 use Rattle.chosen.proofs.Words.{room_whole}
@@ -17,12 +18,6 @@ pub returns-then-byte_at-ne0 : goal.returns-then-byte_at-ne0
 returns-then-byte_at-ne0 c = sym (sym c.loop-i.invariant.0
     ∙ zero-not (room_in c.args.work.now) c.loop-i.i (omega (arith, room_whole c.args.work.now c.requires.0)) (λ e. c.if-byte_at-ne0.true (c.byte_at.ensures ∙ e)))
 
-pub overflow_add-i : goal.overflow_add-i
-overflow_add-i c = omega arith
-
-pub loop-i-smaller : goal.loop-i-smaller
-loop-i-smaller c = omega arith
-
 pub loop-i-preserved : goal.loop-i-preserved
 loop-i-preserved c = (
   zero-next (room_in c.args.work.now) c.loop-i.i (omega (arith, room_whole c.args.work.now c.requires.0)) (sym c.byte_at.ensures ∙ c.if-byte_at-ne0.false)
@@ -30,11 +25,7 @@ loop-i-preserved c = (
   omega arith,
 )
 
-pub overflow_add-i-2 : goal.overflow_add-i-2
-overflow_add-i-2 c = omega arith
-
-pub zero_from-requires : goal.zero_from-requires
-zero_from-requires c = omega arith
-
 pub returns : goal.returns
-returns c = c.zero_from.ensures ∙ words-behind c.args.work.now c.loop-i.i c.loop-i-test.false ∙ c.loop-i.invariant.0
+returns c =
+    let w : c.div_ceil-words.result ≡ c.loop-i.i / 8 = omega arith in
+    (rw w at c.zero_from.ensures) ∙ words-behind c.args.work.now c.loop-i.i (omega arith) ∙ c.loop-i.invariant.0

@@ -8,6 +8,3 @@ use Rattle.chosen.proofs.zero_behind.Given as goal
 
 abbrev pub invariant-loop-i : goal.invariant-loop-i
 invariant-loop-i l = (all_zero (drop l.i (room_in l.work)) ≡ all_zero (drop l.n (room_in l.work))) × (l.i ≤ tree_bytes)
-
-abbrev pub decreases-loop-i : goal.decreases-loop-i
-decreases-loop-i l = tree_bytes - l.i

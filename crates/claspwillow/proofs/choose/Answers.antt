@@ -10,6 +10,3 @@ slice_bounds-choose_through-end c = sym (length-replicate {A = ℕ} 557056 0)
 
 pub choose_through-requires : goal.choose_through-requires
 choose_through-requires c = (length-replicate {A = ℕ} 557056 0, zeros-zero 557056)
-
-pub returns : goal.returns
-returns c = c.choose_through.ensures

@@ -5,24 +5,23 @@ use lib.ListN.{length}
 use Rattle.claspwillow.proofs.Choosing.{choice-ready, choice-held, choice-refused}
 use Rattle.claspwillow.proofs.choose_through.Goals as goal
 
-pub returns-in-Compiled : goal.returns-in-Compiled
-returns-in-Compiled c = choice-held c.args.context c.args.policy.now c.args.work.now c.args.out.now c.requires.0 c.requires.1 c.compile_numbered.ensures c.in-Compiled.is
-    c.hold.ensures
+pub returns-in-Ok : goal.returns-in-Ok
+returns-in-Ok c = choice-held c.args.context c.args.policy.now c.args.work.now c.args.out.now c.requires.0 c.requires.1 c.in-Ok.ensures c.hold.ensures
 
 pub hold-requires-clause-work_len : goal.hold-requires-clause-work_len
 hold-requires-clause-work_len c =
     let same : length c.compile_numbered.new.out ≡ length c.args.out.now = search rules in
     let worked : length c.compile_numbered.new.work ≡ length c.args.work.now = search rules in
-    let ready = choice-ready c.args.context c.args.policy.now c.args.work.now c.args.out.now c.requires.0 c.requires.1 c.compile_numbered.ensures c.in-Compiled.is in
+    let ready = choice-ready c.args.context c.args.policy.now c.args.work.now c.args.out.now c.requires.0 c.requires.1 c.in-Ok.ensures in
     (worked ∙ ready.0, (same ∙ c.requires.0, ready.1 same))
 
 pub hold-requires-clause-bytes_value : goal.hold-requires-clause-bytes_value
 hold-requires-clause-bytes_value c =
-    let ready = choice-ready c.args.context c.args.policy.now c.args.work.now c.args.out.now c.requires.0 c.requires.1 c.compile_numbered.ensures c.in-Compiled.is in
+    let ready = choice-ready c.args.context c.args.policy.now c.args.work.now c.args.out.now c.requires.0 c.requires.1 c.in-Ok.ensures in
     ready.2
 
-pub returns-in-Refused : goal.returns-in-Refused
-returns-in-Refused c =
+pub returns-in-Err : goal.returns-in-Err
+returns-in-Err c =
     let worked : length c.compile_numbered.new.work ≡ length c.args.work.now = search rules in
-    choice-refused c.args.context c.args.policy.now c.args.work.now c.args.out.now c.requires.0 c.requires.1 c.compile_numbered.ensures c.in-Refused.is
+    choice-refused c.args.context c.args.policy.now c.args.work.now c.args.out.now c.requires.0 c.requires.1 c.in-Err.ensures
     c.compile_numbered.new.work c.clear.ensures worked

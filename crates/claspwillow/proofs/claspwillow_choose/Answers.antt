@@ -3,5 +3,5 @@ use Rattle.claspwillow.proofs.Choosing.{chosen-promised}
 use Rattle.claspwillow.proofs.claspwillow_choose.Goals as goal
 
 pub returns : goal.returns
-returns c = chosen-promised c.args.context c.args.policy.now c.args.work.now c.choose-r.ensures c.number_of.ensures c.bytes_of.ensures
-    c.cost_of.ensures c.never_of.ensures c.nodes_of.ensures
+returns c = chosen-promised c.args.context c.args.policy.now c.args.work.now c.choose-r.ensures c.tell.ensures.number c.tell.ensures.bytes
+    c.tell.ensures.cost c.tell.ensures.never c.tell.ensures.nodes

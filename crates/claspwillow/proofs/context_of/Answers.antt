@@ -5,5 +5,5 @@ use Rattle.claspwillow.proofs.context_of.Goals as goal
 pub returns-then-context-eq0 : goal.returns-then-context-eq0
 returns-then-context-eq0 c = segwit c.args.context c.if-context-eq0.true
 
-pub returns : goal.returns
-returns c = tap c.args.context c.if-context-eq0.false
+pub returns-else-context-eq0 : goal.returns-else-context-eq0
+returns-else-context-eq0 c = tap c.args.context c.if-context-eq0.false

@@ -11,6 +11,3 @@ decreases-same l = weight (policy_at l.pol.now l.r)
 
 abbrev pub invariant-loop-j : goal.invariant-loop-j
 invariant-loop-j l = SameInv (policy_at l.pol l.r) (policy_at l.pol l.q) l.j
-
-abbrev pub decreases-loop-j : goal.decreases-loop-j
-decreases-loop-j l = l.n - l.j

@@ -9,12 +9,6 @@ loop-r-init c = class-starts c.args.pol.now
 pub put_class-requires : goal.put_class-requires
 put_class-requires c = (class-good c.args.pol.now c.loop-r.pol c.loop-r.r c.requires c.loop-r.invariant, c.loop-r-test.true)
 
-pub overflow_add-r : goal.overflow_add-r
-overflow_add-r c = omega arith
-
-pub loop-r-smaller : goal.loop-r-smaller
-loop-r-smaller c = omega arith
-
 pub loop-r-preserved : goal.loop-r-preserved
 loop-r-preserved c = class-more c.args.pol.now c.loop-r.pol c.loop-r.r c.requires c.loop-r.invariant c.loop-r-test.true c.put_class.ensures
 

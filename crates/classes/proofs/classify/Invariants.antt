@@ -5,6 +5,3 @@ use Rattle.classes.proofs.classify.Given as goal
 
 abbrev pub invariant-loop-r : goal.invariant-loop-r
 invariant-loop-r l = ClassInv l.initial.pol l.pol l.r
-
-abbrev pub decreases-loop-r : goal.decreases-loop-r
-decreases-loop-r l = 1088 - l.r

@@ -12,12 +12,6 @@ is_same-requires c = c.requires
 pub returns-then-is_same : goal.returns-then-is_same
 returns-then-is_same c = find-found c.args.pol.now c.args.r c.loop-c.c c.loop-c.invariant c.is_same.ensures c.if-is_same.true
 
-pub overflow_add-c : goal.overflow_add-c
-overflow_add-c c = omega arith
-
-pub loop-c-smaller : goal.loop-c-smaller
-loop-c-smaller c = omega arith
-
 pub loop-c-preserved : goal.loop-c-preserved
 loop-c-preserved c = find-more c.args.pol.now c.args.r c.loop-c.c c.loop-c.invariant c.is_same.ensures c.loop-c-test.true c.if-is_same.false
 

@@ -5,6 +5,3 @@ use Rattle.classes.proofs.find_class.Given as goal
 
 abbrev pub invariant-loop-c : goal.invariant-loop-c
 invariant-loop-c l = FindInv l.pol l.r l.c
-
-abbrev pub decreases-loop-c : goal.decreases-loop-c
-decreases-loop-c l = l.r - l.c

@@ -10,11 +10,5 @@ returns-then-not-is_named c = unput c.args.pol.now c.args.r c.is_named.ensures (
 pub find_class-c-requires : goal.find_class-c-requires
 find_class-c-requires c = (c.requires.0, c.is_named.ensures.yes (not-false _ c.if-not-is_named.false-raw))
 
-pub offset_bounds-pol-at : goal.offset_bounds-pol-at
-offset_bounds-pol-at c = omega (arith, c.class_place-at.ensures, class-inside c.args.r c.requires.1, c.requires.0.rows.long)
-
-pub bounds-pol-at : goal.bounds-pol-at
-bounds-pol-at c = omega (arith, c.class_place-at.ensures, class-inside c.args.r c.requires.1, c.requires.0.rows.long)
-
 pub returns : goal.returns
 returns c = put c.args.pol.now c.args.r c.requires.0 c.requires.1 c.class_place-at.ensures c.find_class-c.ensures

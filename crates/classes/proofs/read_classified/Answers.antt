@@ -1,22 +1,15 @@
 -- `classes::read_classified` meets its contract. Assumes nothing.
-use Rattle.policies.specs.declared.ReadPolicy.TheVariants as ReadPolicy
+use mathlib.Core.Path.{refl}
+use Rattle.std.proofs.lemmas.Result.{err_from_is_err_and}
 use Rattle.classes.proofs.Laws.{read-good, classes-root, classes-refused}
 use Rattle.classes.proofs.read_classified.Goals as goal
 
+pub returns-in_err-root : goal.returns-in_err-root
+returns-in_err-root c = let p = err_from_is_err_and c.from_residual.result c.from_residual.ensures.1 in
+    rw (p.1, p.2) (classes-refused c.args.bytes.now c.args.pol.now _ c.in_err-root.ensures refl)
+
 pub classify-requires : goal.classify-requires
-classify-requires c = read-good c.args.bytes.now c.args.pol.now _ c.read_policy.ensures _ c.in-Root.is
+classify-requires c = read-good c.args.bytes.now c.args.pol.now _ c.in_ok-root.ensures _ refl
 
-pub returns-in-BadPolicy : goal.returns-in-BadPolicy
-returns-in-BadPolicy c = classes-refused c.args.bytes.now c.args.pol.now _ c.read_policy.ensures ReadPolicy.BadPolicy c.in-BadPolicy.is tt
-
-pub returns-in-ZeroWeight : goal.returns-in-ZeroWeight
-returns-in-ZeroWeight c = classes-refused c.args.bytes.now c.args.pol.now _ c.read_policy.ensures ReadPolicy.ZeroWeight c.in-ZeroWeight.is tt
-
-pub returns-in-PolicyTooLarge : goal.returns-in-PolicyTooLarge
-returns-in-PolicyTooLarge c = classes-refused c.args.bytes.now c.args.pol.now _ c.read_policy.ensures ReadPolicy.PolicyTooLarge c.in-PolicyTooLarge.is tt
-
-pub returns-in-BadArray : goal.returns-in-BadArray
-returns-in-BadArray c = classes-refused c.args.bytes.now c.args.pol.now _ c.read_policy.ensures ReadPolicy.BadArray c.in-BadArray.is tt
-
-pub returns-in-Root : goal.returns-in-Root
-returns-in-Root c = classes-root c.args.bytes.now c.args.pol.now _ c.read_policy.ensures _ c.in-Root.is _ c.classify.ensures
+pub returns : goal.returns
+returns c = classes-root c.args.bytes.now c.args.pol.now _ c.in_ok-root.ensures _ refl _ c.classify.ensures

@@ -1,18 +1,16 @@
 -- `closure::cast_all` meets its contract: before the cast of a number, the casts still to come give what all ten give. Assumes nothing.
 use mathlib.Core.Path.{sym, ◌∙◌}
-use Rattle.closure.proofs.cast_all.Goals.{then-castable+in-Done, else-castable}
+use Rattle.closure.proofs.cast_all.Goals.{then-castable+else-is_err, else-castable}
 use native.Mathlib.Omega.{arith}
 use Rattle.definition.specs.Tables.{probs}
 use Rattle.table.proofs.Kept.{extends-trans}
 use Rattle.closure.proofs.Extending.{still-long, still-below}
+use Rattle.closure.proofs.Offering.{is-refused, is-done}
 use Rattle.closure.proofs.Casting.{casting-begins, casting-ends, casting-refused, casting-offered, casting-passed}
 use Rattle.closure.proofs.cast_all.Goals as goal
 
 pub loop-number-init : goal.loop-number-init
 loop-number-init c = (casting-begins c.args.context (probs c.args.sat c.args.dissat) c.requires.0 c.requires.1.0, omega arith)
-
-pub castable-requires : goal.castable-requires
-castable-requires c = c.loop-number.invariant.0.extends.holds.long
 
 pub offer_cast-c-requires : goal.offer_cast-c-requires
 offer_cast-c-requires c = (
@@ -20,18 +18,12 @@ offer_cast-c-requires c = (
   (c.loop-number.invariant.0.table, (still-below c.loop-number.invariant.0.extends c.requires.1.1, omega (arith, c.loop-number-test.true))),
 )
 
-pub shape_of-work-in-Refused : goal.shape_of-work-in-Refused
-shape_of-work-in-Refused c = still-long c.requires.0 (extends-trans c.loop-number.invariant.0.extends c.offer_cast-c.ensures.extends)
+pub shape_of-work-then-is_err : goal.shape_of-work-then-is_err
+shape_of-work-then-is_err c = still-long c.requires.0 (extends-trans c.loop-number.invariant.0.extends c.offer_cast-c.ensures.extends)
 
-pub returns-in-Refused : goal.returns-in-Refused
-returns-in-Refused c = casting-refused c.args.context (probs c.args.sat c.args.dissat)
-    c.requires.0 c.requires.1.1 c.loop-number.invariant.0 (omega (arith, c.loop-number-test.true)) c.offer_cast-c.ensures c.in-Refused.is
-
-pub overflow_add-number : goal.overflow_add-number
-overflow_add-number c = omega (arith, c.loop-number-test.true)
-
-pub loop-number-smaller : goal.loop-number-smaller
-loop-number-smaller c = omega (arith, c.loop-number-test.true)
+pub returns-then-is_err : goal.returns-then-is_err
+returns-then-is_err c = casting-refused c.args.context (probs c.args.sat c.args.dissat)
+    c.requires.0 c.requires.1.1 c.loop-number.invariant.0 (omega (arith, c.loop-number-test.true)) c.offer_cast-c.ensures (is-refused c.offer_cast-c.result.end c.is_err.ensures.value c.if-is_err.true).1
 
 pub shape_of-work : goal.shape_of-work
 shape_of-work c = still-long c.requires.0 c.loop-number.invariant.0.extends
@@ -42,9 +34,9 @@ returns c = casting-ends c.args.context (probs c.args.sat c.args.dissat) c.loop-
 pub loop-number-preserved : goal.loop-number-preserved
 loop-number-preserved c = (
   elim c.if-castable.branch [
-    | then-castable+in-Done w ↦
+    | then-castable+else-is_err w ↦
         casting-offered c.args.context (probs c.args.sat c.args.dissat) c.requires.0 c.requires.1.1 c.loop-number.invariant.0 (omega (arith, c.loop-number-test.true))
-        w.offer_cast-c.ensures w.in-Done.is w.work-is w.table-is
+        w.offer_cast-c.ensures (is-done w.offer_cast-c.result.end w.is_err.ensures.value w.if-is_err.false) w.work-is w.table-is
     | else-castable w ↦
         casting-passed c.args.context (probs c.args.sat c.args.dissat) c.requires.0 c.requires.1.1 c.loop-number.invariant.0 (omega (arith, c.loop-number-test.true))
         (sym c.castable.ensures ∙ w.if-castable.false) w.work-is w.table-is

@@ -3,11 +3,8 @@ use mathlib.Core.Path.{refl}
 use Rattle.definition.specs.Tables.{probs}
 use Rattle.nodes.proofs.Casts.{cast-fresh}
 use Rattle.closure.proofs.Extending.{still-long}
-use Rattle.closure.proofs.Offering.{node-small, cast-told, nothing-offered, entered-offered, turned-offered, refused-offered}
+use Rattle.closure.proofs.Offering.{node-small, cast-told, nothing-offered, accepted-offered, refused-offered}
 use Rattle.closure.proofs.offer_cast.Goals as goal
-
-pub node-x-requires : goal.node-x-requires
-node-x-requires c = c.requires.0.long
 
 pub cast-requires : goal.cast-requires
 cast-requires c = node-small c.args.work.now c.args.e c.node-x.ensures
@@ -18,35 +15,24 @@ insert-step-requires c = (
   (
     c.requires.1.0,
     cast-fresh c.requires.0 c.requires.1.1.0 c.args.context c.args.number
-        (cast-told c.args.context c.args.work.now c.args.e c.args.number c.node-x.ensures c.cast.ensures c.in-Cast.is),
+        (cast-told c.args.context c.args.work.now c.args.e c.args.number c.node-x.ensures c.cast.ensures c.in-Ok.is),
   ),
 )
 
-pub shape_of-work-in-Entered : goal.shape_of-work-in-Entered
-shape_of-work-in-Entered c = still-long c.requires.0 c.insert-step.ensures.extends
+pub shape_of-work-in-Ok-offer : goal.shape_of-work-in-Ok-offer
+shape_of-work-in-Ok-offer c = still-long c.requires.0 c.insert-step.ensures.extends
 
-pub returns-in-Entered : goal.returns-in-Entered
-returns-in-Entered c = entered-offered c.args.context (probs c.args.sat c.args.dissat) c.requires.0 c.requires.1.1.0 c.args.number
-    (cast-told c.args.context c.args.work.now c.args.e c.args.number c.node-x.ensures c.cast.ensures c.in-Cast.is) c.insert-step.ensures c.in-Entered.is
+pub returns-in-Ok-offer : goal.returns-in-Ok-offer
+returns-in-Ok-offer c = accepted-offered c.args.context (probs c.args.sat c.args.dissat) c.requires.0 c.requires.1.1.0 c.args.number
+    (cast-told c.args.context c.args.work.now c.args.e c.args.number c.node-x.ensures c.cast.ensures c.in-Ok.is) c.insert-step.ensures c.in-Ok-offer.is
 
-pub shape_of-work-in-TurnedAway : goal.shape_of-work-in-TurnedAway
-shape_of-work-in-TurnedAway c = still-long c.requires.0 c.insert-step.ensures.extends
+pub shape_of-work-in-Err : goal.shape_of-work-in-Err
+shape_of-work-in-Err c = still-long c.requires.0 c.insert-step.ensures.extends
 
-pub returns-in-TurnedAway : goal.returns-in-TurnedAway
-returns-in-TurnedAway c = turned-offered c.args.context (probs c.args.sat c.args.dissat) c.requires.0 c.requires.1.1.0 c.args.number
-    (cast-told c.args.context c.args.work.now c.args.e c.args.number c.node-x.ensures c.cast.ensures c.in-Cast.is) c.insert-step.ensures c.in-TurnedAway.is
+pub returns-in-Err : goal.returns-in-Err
+returns-in-Err c = refused-offered c.args.context (probs c.args.sat c.args.dissat) c.requires.0 c.requires.1.1.0 c.args.number
+    (cast-told c.args.context c.args.work.now c.args.e c.args.number c.node-x.ensures c.cast.ensures c.in-Ok.is) c.insert-step.ensures c.in-Err.is
 
-pub shape_of-work-in-Refused : goal.shape_of-work-in-Refused
-shape_of-work-in-Refused c = still-long c.requires.0 c.insert-step.ensures.extends
-
-pub returns-in-Refused : goal.returns-in-Refused
-returns-in-Refused c = refused-offered c.args.context (probs c.args.sat c.args.dissat) c.requires.0 c.requires.1.1.0 c.args.number
-    (cast-told c.args.context c.args.work.now c.args.e c.args.number c.node-x.ensures c.cast.ensures c.in-Cast.is) c.insert-step.ensures c.in-Refused.is
-
-pub returns-in-IllTyped : goal.returns-in-IllTyped
-returns-in-IllTyped c = nothing-offered c.args.context (probs c.args.sat c.args.dissat) c.requires.0 c.requires.1.1.0 c.args.number
-    (cast-told c.args.context c.args.work.now c.args.e c.args.number c.node-x.ensures c.cast.ensures c.in-IllTyped.is) (λ pol. refl) c.requires.1.0
-
-pub returns-in-Unknown : goal.returns-in-Unknown
-returns-in-Unknown c = nothing-offered c.args.context (probs c.args.sat c.args.dissat) c.requires.0 c.requires.1.1.0 c.args.number
-    (cast-told c.args.context c.args.work.now c.args.e c.args.number c.node-x.ensures c.cast.ensures c.in-Unknown.is) (λ pol. refl) c.requires.1.0
+pub returns-in_default : goal.returns-in_default
+returns-in_default c = nothing-offered c.args.context (probs c.args.sat c.args.dissat) c.requires.0 c.requires.1.1.0 c.args.number
+    (cast-told c.args.context c.args.work.now c.args.e c.args.number c.node-x.ensures c.cast.ensures c.in_default.is) (λ pol. refl) c.requires.1.0

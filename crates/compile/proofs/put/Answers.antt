@@ -2,8 +2,8 @@
 use Rattle.compile.proofs.Putting.{puts, puts-nothing}
 use Rattle.compile.proofs.put.Goals as goal
 
-pub returns-in-Bytes : goal.returns-in-Bytes
-returns-in-Bytes c = puts c.requires c.args.out.now _ c.write.ensures _ c.in-Bytes.is c.price-price.ensures c.bits-cost.ensures c.never-never.ensures c.count-nodes.ensures
+pub returns : goal.returns
+returns c = puts c.requires c.args.out.now _ c.write.ensures _ c.in-Some.is c.price-price.ensures c.bits.ensures c.never.ensures c.count.ensures
 
-pub returns-in-TooSmall : goal.returns-in-TooSmall
-returns-in-TooSmall c = puts-nothing c.requires c.args.out.now _ c.write.ensures c.in-TooSmall.is
+pub returns-in_default : goal.returns-in_default
+returns-in_default c = puts-nothing c.requires c.args.out.now _ c.write.ensures c.in_default.is

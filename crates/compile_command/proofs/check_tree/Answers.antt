@@ -9,10 +9,10 @@ pub slice_bounds-load_records-end : goal.slice_bounds-load_records-end
 slice_bounds-load_records-end g c = sym (length-replicate {A = ℕ} 557057 0)
 
 pub slice_bounds-tree-end : goal.slice_bounds-tree-end
-slice_bounds-tree-end g c = loaded-within c.load_records.new.room c.load_records.ensures c.in-Bytes.is
+slice_bounds-tree-end g c = loaded-within c.load_records.new.room c.load_records.ensures c.in-Some.is
 
 pub slice_bounds-claspwillow_check-end : goal.slice_bounds-claspwillow_check-end
-slice_bounds-claspwillow_check-end g c = loaded-length c.load_records.new.room c.load_records.ensures c.in-Bytes.is
+slice_bounds-claspwillow_check-end g c = loaded-length c.load_records.new.room c.load_records.ensures c.in-Some.is
 
 pub slice_bounds-claspwillow_check-end-2 : goal.slice_bounds-claspwillow_check-end-2
 slice_bounds-claspwillow_check-end-2 g c = sym (length-replicate {A = ℕ} 4096 0)

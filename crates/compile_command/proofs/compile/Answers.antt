@@ -10,10 +10,10 @@ pub slice_bounds-load_records-end : goal.slice_bounds-load_records-end
 slice_bounds-load_records-end g c = sym (length-replicate {A = ℕ} 557057 0)
 
 pub slice_bounds-policy-end : goal.slice_bounds-policy-end
-slice_bounds-policy-end g c = loaded-within c.load_records.new.room c.load_records.ensures c.in-Bytes.is
+slice_bounds-policy-end g c = loaded-within c.load_records.new.room c.load_records.ensures c.in-Some.is
 
 pub slice_bounds-claspwillow_compile-end : goal.slice_bounds-claspwillow_compile-end
-slice_bounds-claspwillow_compile-end g c = loaded-length c.load_records.new.room c.load_records.ensures c.in-Bytes.is
+slice_bounds-claspwillow_compile-end g c = loaded-length c.load_records.new.room c.load_records.ensures c.in-Some.is
 
 pub slice_bounds-claspwillow_compile-end-2 : goal.slice_bounds-claspwillow_compile-end-2
 slice_bounds-claspwillow_compile-end-2 g c = sym (length-replicate {A = ℕ} 557056 0)

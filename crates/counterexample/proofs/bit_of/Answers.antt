@@ -4,16 +4,10 @@ use Rattle.counterexample.proofs.Bits.{whole, halved, bit-told}
 use Rattle.counterexample.proofs.bit_of.Goals as goal
 
 pub loop-i-init : goal.loop-i-init
-loop-i-init c = (omega arith, whole c.args.word)
-
-pub overflow_add-i : goal.overflow_add-i
-overflow_add-i c = omega arith
-
-pub loop-i-smaller : goal.loop-i-smaller
-loop-i-smaller c = omega arith
+loop-i-init c = whole c.args.word
 
 pub loop-i-preserved : goal.loop-i-preserved
-loop-i-preserved c = (omega arith, halved c.args.word c.loop-i.i c.loop-i.invariant.1)
+loop-i-preserved c = halved c.args.word c.loop-i.i c.loop-i.invariant
 
 pub returns : goal.returns
-returns c = bit-told c.args.word c.args.j c.loop-i.i c.loop-i.invariant.0 c.loop-i-test.false c.loop-i.invariant.1
+returns c = bit-told c.args.word c.args.j c.loop-i.i (omega arith) c.loop-i-test.false c.loop-i.invariant

@@ -41,21 +41,9 @@ pub differ_at-to-requires : goal.differ_at-to-requires
 differ_at-to-requires t c =
     (below (less-left c.requires c.node_at-x.ensures c.node_at-y.ensures c.same_at-same.ensures c.if-same.true c.loop-c.invariant c.loop-c-test.true) c.decreases, child-walks c.requires c.node_at-x.ensures c.node_at-y.ensures c.same_at-same.ensures c.if-same.true c.loop-c.invariant c.loop-c-test.true)
 
-pub overflow_add-c : goal.overflow_add-c
-overflow_add-c t c =
-    omega (arith, few-left c.requires c.node_at-x.ensures c.node_at-y.ensures c.same_at-same.ensures c.if-same.true, c.loop-c-test.true)
-
-pub loop-c-smaller : goal.loop-c-smaller
-loop-c-smaller t c =
-    omega (arith, c.loop-c-test.true)
-
 pub loop-c-preserved : goal.loop-c-preserved
 loop-c-preserved t c =
     differ-more c.requires c.node_at-x.ensures c.node_at-y.ensures c.same_at-same.ensures c.if-same.true c.loop-c.invariant c.loop-c-test.true c.differ_at-to.ensures
-
-pub shape_of-out-then-same : goal.shape_of-out-then-same
-shape_of-out-then-same t c =
-    c.loop-c.invariant.come.long
 
 pub returns-then-same : goal.returns-then-same
 returns-then-same t c =

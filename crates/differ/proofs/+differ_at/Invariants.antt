@@ -1,4 +1,3 @@
-use Prim.Native.Nat.{◌-◌}
 use Rattle.differ.proofs.Walking.{DifferOn}
 use Rattle.differ.proofs.+differ_at.Given as goal
 
@@ -8,6 +7,3 @@ decreases-differ_at l = l.i
 
 abbrev pub invariant-loop-c : goal.invariant-loop-c
 invariant-loop-c l = DifferOn l.left l.right l.initial.out l.at l.xs l.ys l.n l.out l.to l.c
-
-abbrev pub decreases-loop-c : goal.decreases-loop-c
-decreases-loop-c l = l.n - l.c

@@ -1,7 +1,6 @@
 -- `differ::differ_in` meets its contract: the starts of either tree stand in a half of work memory. Assumes nothing.
 use mathlib.Core.Path.{ap}
 use mathlib.Core.List.{List}
-use native.Mathlib.Omega.{arith}
 use lib.ListN.{length}
 use Rattle.differ.specs.Differences.{Difference}
 use Rattle.differ.specs.Differ.{fitting}
@@ -10,23 +9,11 @@ use Rattle.differ.proofs.Promised.{gives_as, of-roots}
 use mathlib.Core.Path.{sym}
 use Rattle.differ.proofs.differ_in.Goals as goal
 
-pub slice_bounds-scan-count : goal.slice_bounds-scan-count
-slice_bounds-scan-count c = omega arith
-
 pub scan-n-requires : goal.scan-n-requires
 scan-n-requires c = (c.requires.0, left-room c.requires.0.rows c.requires.1.rows c.args.work.now c.requires.2)
 
-pub slice_bounds-scan-count-2 : goal.slice_bounds-scan-count-2
-slice_bounds-scan-count-2 c = omega arith
-
 pub scan-m-requires : goal.scan-m-requires
 scan-m-requires c = (c.requires.1, right-room c.requires.0.rows c.requires.1.rows c.args.work.now c.requires.2 c.scan-n.ensures)
-
-pub slice_bounds-differ_roots-count : goal.slice_bounds-differ_roots-count
-slice_bounds-differ_roots-count c = omega arith
-
-pub slice_bounds-differ_roots-count-2 : goal.slice_bounds-differ_roots-count-2
-slice_bounds-differ_roots-count-2 c = omega arith
 
 pub overflow_sub-n : goal.overflow_sub-n
 overflow_sub-n c = some_left c.requires.0.rows c.requires.1.rows c.args.work.now c.requires.2 c.scan-n.ensures c.scan-m.ensures

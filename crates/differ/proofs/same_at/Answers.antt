@@ -3,11 +3,5 @@ use Rattle.walk.proofs.Laws.{its-bytes}
 use Rattle.differ.proofs.Sides.{same_bytes}
 use Rattle.differ.proofs.same_at.Goals as goal
 
-pub bounds-left_starts-i : goal.bounds-left_starts-i
-bounds-left_starts-i c = c.requires.0.long
-
-pub bounds-right_starts-j : goal.bounds-right_starts-j
-bounds-right_starts-j c = c.requires.1.long
-
 pub returns : goal.returns
 returns c = same_bytes c.same_record.ensures (its-bytes c.requires.0 c.record_end-b.ensures) (its-bytes c.requires.1 c.record_end-d.ensures)

@@ -1,10 +1,6 @@
--- `differ::same_keys` meets its contract: the keys passed are the same or not, and the others are still to come. Assumes nothing.
-use Prim.Native.Nat.{◌-◌, ◌≤◌}
+-- `differ::same_keys` meets its contract: the keys passed are the same, and the others are still to come. Assumes nothing.
 use Rattle.differ.proofs.Sides.{KeysToCome}
 use Rattle.differ.proofs.same_keys.Given as goal
 
 abbrev pub invariant-loop-j : goal.invariant-loop-j
-invariant-loop-j l = KeysToCome l.left l.right l.count l.j l.same × (l.j ≤ l.count)
-
-abbrev pub decreases-loop-j : goal.decreases-loop-j
-decreases-loop-j l = l.count - l.j
+invariant-loop-j l = KeysToCome l.left l.right l.count l.j

@@ -12,7 +12,7 @@ pub slice_bounds-load_records-end-2 : goal.slice_bounds-load_records-end-2
 slice_bounds-load_records-end-2 g c = sym (length-replicate {A = ℕ} 557057 0)
 
 pub slice_bounds-differ_of-end : goal.slice_bounds-differ_of-end
-slice_bounds-differ_of-end g c = loaded-length c.load_records.new.room c.load_records.ensures c.in-Bytes.is
+slice_bounds-differ_of-end g c = loaded-length c.load_records.new.room c.load_records.ensures c.in-Some.is
 
 pub slice_bounds-differ_of-end-2 : goal.slice_bounds-differ_of-end-2
-slice_bounds-differ_of-end-2 g c = loaded-length c.load_records-2.new.room c.load_records-2.ensures c.in-Bytes-load_records.is
+slice_bounds-differ_of-end-2 g c = loaded-length c.load_records-2.new.room c.load_records-2.ensures c.in-Some-load_records.is

@@ -1,13 +1,24 @@
 use Rattle.std.proofs.Common.{rules}
 use native.Mathlib.Omega.{arith}
-use mathlib.Core.Path.{◌≡◌, ◌∙◌}
-use mathlib.Core.Logic.{⊎_elim, inl, inr}
+use mathlib.Core.Path.{◌≡◌}
 use lib.ListN.{length}
-use Rattle.figure_rules.proofs.Ranges.{of-cast, of_pair, of-and-or, of-thresh, of-leaf, small, children}
+use Rattle.figure_rules.proofs.Ranges.{small, children}
 use Rattle.figure_rules.proofs.figures_of.Goals as goal
 
-pub leaf-requires : goal.leaf-requires
-leaf-requires c = (c.requires.1.lock, c.requires.1.bounds)
+pub cast-requires : goal.cast-requires
+cast-requires c =
+    let len : length c.args.children ≡ 16 = search rules in
+    small c.requires.1 _ 0 (omega (arith, len))
+
+pub pair-requires : goal.pair-requires
+pair-requires c =
+    let len : length c.args.children ≡ 16 = search rules in
+    (small c.requires.1 _ 0 (omega (arith, len)), small c.requires.1 _ 1 (omega (arith, len)))
+
+pub and_or-requires : goal.and_or-requires
+and_or-requires c =
+    let len : length c.args.children ≡ 16 = search rules in
+    (small c.requires.1 _ 0 (omega (arith, len)), (small c.requires.1 _ 1 (omega (arith, len)), small c.requires.1 _ 2 (omega (arith, len))))
 
 pub threshold-requires : goal.threshold-requires
 threshold-requires c =

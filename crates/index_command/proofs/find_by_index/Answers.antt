@@ -9,4 +9,4 @@ pub slice_bounds-load_index-end : goal.slice_bounds-load_index-end
 slice_bounds-load_index-end g c = sym (length-replicate {A = ℕ} 65537 0)
 
 pub slice_bounds-find_in-end : goal.slice_bounds-find_in-end
-slice_bounds-find_in-end g c = loaded-length c.load_index.new.room c.load_index.ensures c.in-Bytes.is
+slice_bounds-find_in-end g c = loaded-length c.load_index.new.room c.load_index.ensures c.in-Some.is

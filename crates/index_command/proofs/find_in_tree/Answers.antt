@@ -9,4 +9,4 @@ pub slice_bounds-load_records-end : goal.slice_bounds-load_records-end
 slice_bounds-load_records-end g c = sym (length-replicate {A = ℕ} 557057 0)
 
 pub slice_bounds-find_by_index-end : goal.slice_bounds-find_by_index-end
-slice_bounds-find_by_index-end g c = loaded-length c.load_records.new.room c.load_records.ensures c.in-Bytes.is
+slice_bounds-find_by_index-end g c = loaded-length c.load_records.new.room c.load_records.ensures c.in-Some.is

@@ -22,12 +22,6 @@ overflow_add-at c = omega (arith, c.size_at-size.ensures.1, c.after_size.ensures
 pub overflow_add-at-in-loop-j : goal.overflow_add-at-in-loop-j
 overflow_add-at-in-loop-j c = omega (arith, c.size_at-size.ensures.1, c.after_size.ensures.1, c.loop-j.invariant.1, c.loop-j.invariant.2, c.requires.few, c.loop-j-test.true)
 
-pub overflow_add-j : goal.overflow_add-j
-overflow_add-j c = omega (arith, c.requires.few, c.loop-j-test.true)
-
-pub loop-j-smaller : goal.loop-j-smaller
-loop-j-smaller c = omega (arith, c.loop-j-test.true)
-
 pub returns : goal.returns
 returns c = let last : c.loop-j.j ≡ c.args.n = omega (arith, c.loop-j.invariant.2, c.loop-j-test.false) in
     rw (← last) (c.loop-j.invariant.0, c.loop-j.invariant.1)

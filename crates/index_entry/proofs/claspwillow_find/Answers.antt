@@ -1,10 +1,21 @@
--- `index_entry::claspwillow_find` meets its contract. Assumes nothing.
-use Rattle.index_entry.proofs.Lookups.{find-of-length, find-of-other-length}
+-- `index_entry::claspwillow_find` keeps its promise. Assumes nothing.
+use Rattle.std.specs.Prelude.{◌≡◌, None, Some}
+use Rattle.index_entry.proofs.Lookups.{find-promised}
 use Rattle.index_entry.proofs.claspwillow_find.Goals as goal
 
-pub returns : goal.returns
-returns c = find-of-other-length c.args.context c.args.tree.now c.args.index.now c.args.at c.args.work.now c.if-work-eq-WORK_WORDS.false c.wrong_length.ensures c.clear-2.ensures
+pub returns-in-Ok-Some : goal.returns-in-Ok-Some
+returns-in-Ok-Some c =
+    let p = find-promised c.args.context c.args.tree.now c.args.index.now c.args.at c.args.work.now c.find-r.new.work c.find-r.ensures.find_answered c.find-r.ensures.work_len_unchanged c.clear.ensures in
+    let q : c.in-Ok-Some.field-0 ≡ Some c.in-Ok-Some.i = rw c.in-Ok-Some.is at c.in-Ok-Some.field-0-is in
+    rw (c.in-Ok-Some.is, q) at p
 
-pub returns-then-work-eq-WORK_WORDS : goal.returns-then-work-eq-WORK_WORDS
-returns-then-work-eq-WORK_WORDS c = find-of-length c.args.context c.args.tree.now c.args.index.now c.args.at c.args.work.now c.if-work-eq-WORK_WORDS.true c.find_checked-r.new.work
-    c.find_checked-r.ensures.find_answered c.find_checked-r.ensures.work_len_unchanged c.clear.ensures
+pub returns-in-Ok-None : goal.returns-in-Ok-None
+returns-in-Ok-None c =
+    let p = find-promised c.args.context c.args.tree.now c.args.index.now c.args.at c.args.work.now c.find-r.new.work c.find-r.ensures.find_answered c.find-r.ensures.work_len_unchanged c.clear.ensures in
+    let q : c.in-Ok-None.field-0 ≡ None = cc in
+    rw (c.in-Ok-None.is, q) at p
+
+pub returns-in-Err : goal.returns-in-Err
+returns-in-Err c =
+    let p = find-promised c.args.context c.args.tree.now c.args.index.now c.args.at c.args.work.now c.find-r.new.work c.find-r.ensures.find_answered c.find-r.ensures.work_len_unchanged c.clear.ensures in
+    rw c.number.ensures (rw c.in-Err.is at p)

@@ -10,12 +10,6 @@ loop-i-init c = (fill_begins _ _ _, omega arith)
 pub fill_record-requires : goal.fill_record-requires
 fill_record-requires c = fill-next c.requires c.loop-i.invariant.0 c.loop-i-test.true
 
-pub overflow_add-i : goal.overflow_add-i
-overflow_add-i c = omega (arith, c.loop-i-test.true, c.requires.counts, c.requires.checked.rows.few)
-
-pub loop-i-smaller : goal.loop-i-smaller
-loop-i-smaller c = omega (arith, c.loop-i-test.true)
-
 pub loop-i-preserved : goal.loop-i-preserved
 loop-i-preserved c = (fill_more c.requires c.loop-i.invariant.0 c.loop-i-test.true c.fill_record.ensures, omega (arith, c.loop-i-test.true))
 

@@ -9,14 +9,8 @@ use Rattle.index_entry.proofs.give_all.Goals as goal
 pub loop-i-init : goal.loop-i-init
 loop-i-init c = (all-begins c.requires.sized c.requires.first, omega arith)
 
-pub overflow_sub-i : goal.overflow_sub-i
-overflow_sub-i c = omega (arith, c.loop-i-test.true)
-
 pub give_places-requires : goal.give_places-requires
 give_places-requires c = gives-last c.requires.sized c.loop-i.invariant.0 c.loop-i-test.true c.loop-i.invariant.1
-
-pub loop-i-smaller : goal.loop-i-smaller
-loop-i-smaller c = omega (arith, c.loop-i-test.true)
 
 pub loop-i-preserved : goal.loop-i-preserved
 loop-i-preserved c = (all-last c.requires.sized c.loop-i.invariant.0 c.loop-i-test.true c.loop-i.invariant.1 c.give_places.ensures, omega (arith, c.loop-i.invariant.1))

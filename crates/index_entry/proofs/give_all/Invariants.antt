@@ -5,6 +5,3 @@ use Rattle.index_entry.proofs.give_all.Given as goal
 
 abbrev pub invariant-loop-i : goal.invariant-loop-i
 invariant-loop-i l = Giving l.tree l.initial.work l.work l.count l.i × (l.i ≤ l.count)
-
-abbrev pub decreases-loop-i : goal.decreases-loop-i
-decreases-loop-i l = l.i

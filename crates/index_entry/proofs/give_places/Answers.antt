@@ -39,12 +39,6 @@ bounds-work-child c = omega (
       c.loop-j-test.true,
 )
 
-pub overflow_add-j : goal.overflow_add-j
-overflow_add-j c = omega (arith, few-children c.requires c.node_at-node.ensures, c.loop-j-test.true)
-
-pub loop-j-smaller : goal.loop-j-smaller
-loop-j-smaller c = omega (arith, c.loop-j-test.true)
-
 pub loop-j-preserved : goal.loop-j-preserved
 loop-j-preserved c = (
   give-more c.requires c.node_at-node.ensures c.loop-j.invariant.0 c.loop-j-test.true c.first_at-at.ensures c.place.ensures refl c.ahead-before.ensures.0 refl,

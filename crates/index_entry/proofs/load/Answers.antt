@@ -22,12 +22,6 @@ offset_bounds-out-j c = omega (arith, c.requires.1, c.loop-j-test.true)
 pub bounds-out-j : goal.bounds-out-j
 bounds-out-j c = omega (arith, c.requires.1, c.loop-j-test.true)
 
-pub overflow_add-j : goal.overflow_add-j
-overflow_add-j c = omega (arith, c.requires.1, c.loop-j-test.true)
-
-pub loop-j-smaller : goal.loop-j-smaller
-loop-j-smaller c = omega (arith, c.loop-j-test.true)
-
 pub loop-j-preserved : goal.loop-j-preserved
 loop-j-preserved c = (
   load-more c.loop-j.invariant.0 (omega (arith, c.requires.1, c.loop-j-test.true)) (omega (arith, c.requires.1, c.loop-j-test.true)) c.subtree_at.ensures,

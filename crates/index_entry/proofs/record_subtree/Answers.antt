@@ -17,7 +17,7 @@ rule_of-requires c = needed c.requires c.fragment_parts-parts.ensures c.kind_of-
 pub returns-in_default : goal.returns-in_default
 returns-in_default c = record {
   ruled = ill-ruled c.requires c.fragment_parts-parts.ensures c.kind_of-kind.ensures c.arity-n.ensures c.load-children.result c.load-children.ensures c.args.context c.types_of.ensures refl
-      c.rule_of.result c.rule_of.ensures _ c.in_default.is;
+      c.rule_of.result c.rule_of.ensures _ _ c.in_default.is;
   height_le_max_height = omega arith;
 }
 

@@ -14,4 +14,4 @@ pub returns-in-58 : goal.returns-in-58
 returns-in-58 c = size-multi-a c.args.context c.args.verified c.args.bytes.now c.kind_of-kind.ensures c.k_of-k.ensures c.count_of-count.ensures c.in-58.is c.number_size-in-58.ensures.0 c.key_push-in-58.ensures.0
 
 pub returns-in_default : goal.returns-in_default
-returns-in_default c = size-numbered c.args.context c.args.verified c.args.bytes.now c.kind_of-kind.ensures c.k_of-k.ensures c.count_of-count.ensures c.in_default.in_default-own.rest.0.1 c.in_default.in_default-own.rest.1 c.number_of.ensures.value c.numbered_size.ensures.0
+returns-in_default c = size-numbered c.args.context c.args.verified c.args.bytes.now c.kind_of-kind.ensures c.k_of-k.ensures c.count_of-count.ensures (λ e. omega arith) (λ e. omega arith) c.number_of.ensures.value c.numbered_size.ensures.0

@@ -6,6 +6,3 @@ use Rattle.index_view.proofs.depth.Given as goal
 
 abbrev pub invariant-loop-k : goal.invariant-loop-k
 invariant-loop-k l = (l.n ≡ count l.index) × (l.deep + l.i < l.k) × (l.k ≤ l.n) × (l.deep + holding l.index l.at l.k (l.n - l.k) ≡ depth l.index l.i l.at)
-
-abbrev pub decreases-loop-k : goal.decreases-loop-k
-decreases-loop-k l = l.n - l.k

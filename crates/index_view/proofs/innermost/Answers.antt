@@ -7,18 +7,9 @@ use Rattle.index_view.proofs.innermost.Goals as goal
 pub loop-i-init : goal.loop-i-init
 loop-i-init c = (c.entries-n.ensures, omega arith, from-none c.args.index.now c.entries-n.ensures c.args.at)
 
-pub holds-requires : goal.holds-requires
-holds-requires c = omega (arith, c.loop-i.invariant.0, c.loop-i-test.true)
-
 pub returns-then-holds : goal.returns-then-holds
 returns-then-holds c = let step = found_here c.args.index.now c.args.at c.loop-i.i c.loop-i-test.true c.holds.ensures c.if-holds.true in
     sym step ∙ c.loop-i.invariant.2
-
-pub overflow_add-i : goal.overflow_add-i
-overflow_add-i c = omega arith
-
-pub loop-i-smaller : goal.loop-i-smaller
-loop-i-smaller c = omega arith
 
 pub loop-i-preserved : goal.loop-i-preserved
 loop-i-preserved c = let step = found-later c.args.index.now c.args.at c.loop-i.i c.loop-i-test.true c.holds.ensures c.if-holds.false in

@@ -6,6 +6,3 @@ use Rattle.index_view.proofs.innermost.Given as goal
 
 abbrev pub invariant-loop-i : goal.invariant-loop-i
 invariant-loop-i l = (l.n ≡ count l.index) × (l.i ≤ l.n) × (first_holding l.index l.at l.i (l.n - l.i) ≡ innermost l.index l.at)
-
-abbrev pub decreases-loop-i : goal.decreases-loop-i
-decreases-loop-i l = l.n - l.i

@@ -1,19 +1,12 @@
 -- `moving::move_policy` meets its contract. Assumes nothing.
 use mathlib.Core.Path.{refl}
-use Rattle.moving.proofs.Outcomes.{bad-policy, zero-weight, too_large_lem, no-bad-array, policy-read}
+use Rattle.std.proofs.lemmas.Result.{err_from_is_err_and}
+use Rattle.moving.proofs.Outcomes.{policy-refused, policy-read}
 use Rattle.moving.proofs.move_policy.Goals as goal
 
-pub returns-in-BadPolicy : goal.returns-in-BadPolicy
-returns-in-BadPolicy c = bad-policy c.args.form c.args.policy.now c.args.out.now _ _ refl c.read_policy.ensures c.in-BadPolicy.is c.refused.ensures
+pub returns-in_err-read_policy : goal.returns-in_err-read_policy
+returns-in_err-read_policy c = let p = err_from_is_err_and c.from_residual.result c.from_residual.ensures.1 in
+    rw (p.1, p.2) (policy-refused c.args.form c.args.policy.now c.args.out.now _ _ refl c.in_err-read_policy.ensures refl)
 
-pub returns-in-ZeroWeight : goal.returns-in-ZeroWeight
-returns-in-ZeroWeight c = zero-weight c.args.form c.args.policy.now c.args.out.now _ _ refl c.read_policy.ensures c.in-ZeroWeight.is c.refused-in-ZeroWeight.ensures
-
-pub returns-in-PolicyTooLarge : goal.returns-in-PolicyTooLarge
-returns-in-PolicyTooLarge c = too_large_lem c.args.form c.args.policy.now c.args.out.now _ _ refl c.read_policy.ensures c.in-PolicyTooLarge.is c.refused-in-PolicyTooLarge.ensures
-
-pub returns-in-BadArray : goal.returns-in-BadArray
-returns-in-BadArray c = no-bad-array c.args.form c.args.policy.now c.args.out.now _ _ refl c.read_policy.ensures c.in-BadArray.is
-
-pub returns-in-Root : goal.returns-in-Root
-returns-in-Root c = policy-read c.args.form c.args.policy.now c.args.out.now _ _ refl c.read_policy.ensures c.in-Root.is c.move_read.ensures
+pub returns : goal.returns
+returns c = policy-read c.args.form c.args.policy.now c.args.out.now _ _ refl c.in_ok-read_policy.ensures refl c.move_read.ensures

@@ -6,17 +6,8 @@ use Rattle.moving.proofs.put_policy.Goals as goal
 pub loop-i-init : goal.loop-i-init
 loop-i-init c = write-starts c.args.form c.args.policy.now c.args.out.now c.requires
 
-pub slice_bounds-put_moved-count : goal.slice_bounds-put_moved-count
-slice_bounds-put_moved-count c = omega (arith, part-inside c.args.form c.args.policy.now c.args.out.now c.loop-i.invariant _ c.record_end-end.ensures)
-
 pub put_moved-to-requires : goal.put_moved-to-requires
 put_moved-to-requires c = has_room c.args.form c.args.policy.now c.args.out.now c.loop-i.invariant _ c.record_end-end.ensures (omega (arith, c.loop-i-test.true))
-
-pub overflow_add-i : goal.overflow_add-i
-overflow_add-i c = omega (arith, c.loop-i.invariant.few)
-
-pub loop-i-smaller : goal.loop-i-smaller
-loop-i-smaller c = omega arith
 
 pub loop-i-preserved : goal.loop-i-preserved
 loop-i-preserved c = write-goes-on c.args.form c.args.policy.now c.args.out.now c.loop-i.invariant _ c.record_end-end.ensures (omega (arith, c.loop-i-test.true)) _ _ c.put_moved-to.ensures.value

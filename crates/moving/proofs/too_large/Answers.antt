@@ -1,4 +1,4 @@
--- `moving::too_large_lem` meets its contract. Assumes nothing.
+-- `moving::too_large` meets its contract. Assumes nothing.
 use mathlib.Core.Path.{sym, ap, ◌∙◌}
 use Rattle.moving.specs.Moving.{exceeds}
 use Rattle.moving.proofs.Keys.{large-key, large-other}
@@ -8,5 +8,5 @@ pub returns-then-moves : goal.returns-then-moves
 returns-then-moves c = c.exceeds.ensures ∙ ap (exceeds c.args.form) c.number_of.ensures.value
     ∙ sym (large-key c.args.form c.args.whole.now (sym c.moves.ensures ∙ c.if-moves.true))
 
-pub returns : goal.returns
-returns c = sym (large-other c.args.form c.args.whole.now (sym c.moves.ensures ∙ c.if-moves.false))
+pub returns-else-moves : goal.returns-else-moves
+returns-else-moves c = c.if-moves.false ∙ sym (large-other c.args.form c.args.whole.now (sym c.moves.ensures ∙ c.if-moves.false))

@@ -6,6 +6,3 @@ use Rattle.oracle_lines.proofs.bytes.Given as goal
 
 abbrev pub invariant-loop-n : goal.invariant-loop-n
 invariant-loop-n l = Held l.word l.initial.room l.room l.n
-
-abbrev pub decreases-loop-n : goal.decreases-loop-n
-decreases-loop-n l = length l.word - 2 * l.n

@@ -1,4 +1,6 @@
 -- `oracle_lines::cost` meets its contract: a lone sign by what it is, and else the bits. Assumes nothing.
+use mathlib.Core.Path.{ap, ◌∙◌}
+use Rattle.oracle_lines.specs.Reads.{cost_told}
 use Rattle.oracle_lines.proofs.Cases.{never-word, no-cost, bits-told, bits-missing}
 use Rattle.oracle_lines.proofs.cost.Goals as goal
 
@@ -8,8 +10,8 @@ returns-then-word-eq-DASH c = never-word c.args.word.now c.if-word-eq1.true c.if
 pub returns-then-word-eq1 : goal.returns-then-word-eq1
 returns-then-word-eq1 c = no-cost c.args.word.now c.if-word-eq1.true c.if-word-eq-DASH.false
 
-pub returns-in-Is : goal.returns-in-Is
-returns-in-Is c = bits-told c.args.word.now c.if-word-eq1.false c.bits.ensures _ c.in-Is.is
+pub returns-in_err-bits : goal.returns-in_err-bits
+returns-in_err-bits c = ap cost_told c.from_residual.ensures ∙ bits-missing c.args.word.now c.if-word-eq1.false c.in_err-bits.ensures
 
-pub returns-in-Missing : goal.returns-in-Missing
-returns-in-Missing c = bits-missing c.args.word.now c.if-word-eq1.false c.bits.ensures c.in-Missing.is
+pub returns : goal.returns
+returns c = bits-told c.args.word.now c.if-word-eq1.false c.in_ok-bits.ensures

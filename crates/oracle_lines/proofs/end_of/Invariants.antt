@@ -6,6 +6,3 @@ use Rattle.oracle_lines.proofs.end_of.Given as goal
 
 abbrev pub invariant-loop-i : goal.invariant-loop-i
 invariant-loop-i l = Reached l.sign l.s l.from l.i
-
-abbrev pub decreases-loop-i : goal.decreases-loop-i
-decreases-loop-i l = length l.s - l.i

@@ -1,8 +1,8 @@
 -- `output::measure` meets its contract: it goes over the children of a node with what is still to come. Assumes nothing.
-use Rattle.std.proofs.Common.{arith, ◌≡◌, refl, ◌<◌}
+use Rattle.std.proofs.Common.{arith, ◌<◌}
 use Rattle.output.specs.Records.{arity_at}
 use Rattle.output.proofs.Measuring.{measure-none, measure-starts, measure-stops, measure-goes-on, measure-ends, child-falls}
-use Rattle.output.proofs.Measuring.{child-readable, fits_told, many-told}
+use Rattle.output.proofs.Measuring.{child-readable, fitted, exceeds}
 use Rattle.output.proofs.+measure.Goals as goal
 
 pub returns-then-left-eq0 : goal.returns-then-left-eq0
@@ -19,21 +19,21 @@ measure-requires t c =
       (child-readable c.requires.0 c.loop-j.j _ l c.child_of-c.ensures, omega (arith, c.requires.1)),
     )
 
-pub returns-in-TooMany : goal.returns-in-TooMany
-returns-in-TooMany t c =
-    measure-stops c.requires.0 c.loop-j.invariant _ c.loop-j-test.true c.child_of-c.ensures (many-told _ c.in-TooMany.ensures refl)
+pub returns-in_err-more : goal.returns-in_err-more
+returns-in_err-more t c =
+    rw c.from_residual.ensures (measure-stops c.requires.0 c.loop-j.invariant _ c.loop-j-test.true c.child_of-c.ensures (exceeds c.in_err-more.ensures))
 
 pub overflow_add-records : goal.overflow_add-records
-overflow_add-records t c = omega (arith, (fits_told _ c.in-Fits.ensures refl).few, c.loop-j.invariant.few, c.requires.1)
+overflow_add-records t c = omega (arith, (fitted c.in_ok-more.ensures).few, c.loop-j.invariant.few, c.requires.1)
 
 pub overflow_add-bytes : goal.overflow_add-bytes
 overflow_add-bytes t c =
-    let f = fits_told _ c.in-Fits.ensures refl in
+    let f = fitted c.in_ok-more.ensures in
     omega (arith, f.few, f.short, c.loop-j.invariant.short, c.loop-j.invariant.few, c.requires.1)
 
 pub loop-j-preserved : goal.loop-j-preserved
 loop-j-preserved t c =
-    measure-goes-on c.requires.0 c.loop-j.invariant _ _ _ c.loop-j-test.true c.child_of-c.ensures (fits_told _ c.in-Fits.ensures refl)
+    measure-goes-on c.requires.0 c.loop-j.invariant _ _ c.loop-j-test.true c.child_of-c.ensures (fitted c.in_ok-more.ensures)
 
 pub returns : goal.returns
 returns t c = measure-ends c.requires.0 c.loop-j.invariant c.loop-j-test.false

@@ -1,5 +1,4 @@
 -- `output::measure` falls from a node to its children, and goes over them with what is still to come.
-use Rattle.std.proofs.Common.{◌-◌}
 use Rattle.output.proofs.Measuring.{MeasureInv}
 use Rattle.output.proofs.+measure.Given as goal
 
@@ -8,6 +7,3 @@ decreases-measure l = l.e
 
 abbrev pub invariant-loop-j : goal.invariant-loop-j
 invariant-loop-j l = MeasureInv l.pol l.work l.e l.left l.n l.records l.bytes l.j
-
-abbrev pub decreases-loop-j : goal.decreases-loop-j
-decreases-loop-j l = l.n - l.j

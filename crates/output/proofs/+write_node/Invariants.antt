@@ -1,5 +1,4 @@
 -- `output::write_node` falls from a node to its children, and goes over them with what is still to come.
-use Rattle.std.proofs.Common.{◌-◌}
 use Rattle.output.proofs.Nodes.{WriteInv}
 use Rattle.output.proofs.+write_node.Given as goal
 
@@ -8,6 +7,3 @@ decreases-write_node l = l.e
 
 abbrev pub invariant-loop-j : goal.invariant-loop-j
 invariant-loop-j l = WriteInv l.pol l.work l.e l.initial.out l.at l.n l.arity l.out l.row l.to l.records l.j
-
-abbrev pub decreases-loop-j : goal.decreases-loop-j
-decreases-loop-j l = l.arity - l.j

@@ -1,9 +1,6 @@
 -- `output::named_child` meets its contract: by whether the children are a row. Assumes nothing.
-use Rattle.output.proofs.Children.{row-there, row_read, first_read, second-read, third-read}
+use Rattle.output.proofs.Children.{row_read, first_read, second-read, third-read}
 use Rattle.output.proofs.named_child.Goals as goal
-
-pub row_child-requires : goal.row_child-requires
-row_child-requires c = (c.requires.0.long, row-there c.args.work.now c.args.e _ c.node-x.ensures c.requires.0 c.requires.1 c.if-x-eq-THRESH.true)
 
 pub returns-then-x-eq-THRESH : goal.returns-then-x-eq-THRESH
 returns-then-x-eq-THRESH c = row_read c.args.work.now c.args.e _ c.node-x.ensures c.args.j _ c.if-x-eq-THRESH.true c.row_child.ensures

@@ -5,27 +5,9 @@ use lib.Seq.{sets}
 use Rattle.words.specs.Bytes.{bytes_of}
 use Rattle.policies.specs.Array.{policy_at}
 use Rattle.nodes.specs.Views.{keys_of}
-use Rattle.output.proofs.Placing.{row-starts, row-goes-on, row_ends, keys-count, key-read}
+use Rattle.output.proofs.Placing.{row-goes-on, row_ends, keys-count, key-read}
 use native.Mathlib.Omega.{arith}
 use Rattle.output.proofs.put_keys.Goals as goal
-
-pub loop-j-init : goal.loop-j-init
-loop-j-init c = row-starts 8 (keys_of (policy_at c.args.pol.now c.args.r)) c.args.out.now c.args.at
-
-pub overflow_mul-j : goal.overflow_mul-j
-overflow_mul-j c = omega arith
-
-pub overflow_add-at : goal.overflow_add-at
-overflow_add-at c = omega arith
-
-pub put_8-requires : goal.put_8-requires
-put_8-requires c = omega (arith, c.loop-j.invariant.long)
-
-pub overflow_add-j : goal.overflow_add-j
-overflow_add-j c = omega arith
-
-pub loop-j-smaller : goal.loop-j-smaller
-loop-j-smaller c = omega arith
 
 pub loop-j-preserved : goal.loop-j-preserved
 loop-j-preserved c = row-goes-on 8 (keys_of (policy_at c.args.pol.now c.args.r)) c.args.out.now c.args.at c.loop-j.invariant _
@@ -33,9 +15,6 @@ loop-j-preserved c = row-goes-on 8 (keys_of (policy_at c.args.pol.now c.args.r))
     (c.put_8.ensures
     ∙ ap (λ v. sets c.loop-j.out (c.args.at + 8 * c.loop-j.j) (bytes_of 8 v))
     (key-read c.args.pol.now c.args.r c.args.n c.requires.0 c.loop-j.j _ _ c.loop-j-test.true c.child-c.ensures c.head_of-head.ensures))
-
-pub shape_of-out : goal.shape_of-out
-shape_of-out c = c.loop-j.invariant.long
 
 pub returns : goal.returns
 returns c = row_ends 8 (keys_of (policy_at c.args.pol.now c.args.r)) c.args.out.now c.args.at c.loop-j.invariant

@@ -1,5 +1,4 @@
 -- `output::put_keys` meets its contract: those still to come are written after those before them. Assumes nothing.
-use Prim.Native.Nat.{◌-◌}
 use Rattle.policies.specs.Array.{policy_at}
 use Rattle.nodes.specs.Views.{keys_of}
 use Rattle.output.proofs.Placing.{RowInv}
@@ -7,6 +6,3 @@ use Rattle.output.proofs.put_keys.Given as goal
 
 abbrev pub invariant-loop-j : goal.invariant-loop-j
 invariant-loop-j l = RowInv 8 (keys_of (policy_at l.pol l.r)) l.initial.out l.at l.out l.j
-
-abbrev pub decreases-loop-j : goal.decreases-loop-j
-decreases-loop-j l = l.n - l.j

@@ -33,4 +33,4 @@ returns-then-is_ok c = triple-of-nodes c.args.l c.args.r c.args.e c.args.lw c.ar
 
 pub returns : goal.returns
 returns c = triple-passed (node_at c.args.work.now c.args.l) (node_at c.args.work.now c.args.r) (node_at c.args.work.now c.args.e) c.args.l c.args.r
-    c.args.e c.args.lw c.args.rw c.type_at.ensures c.type_at-2.ensures c.type_at-3.ensures c.and_or.ensures c.is_ok.ensures c.if-is_ok.false
+    c.args.e c.args.lw c.args.rw c.type_at.ensures c.type_at-2.ensures c.type_at-3.ensures c.and_or.ensures c.is_ok.ensures.value c.if-is_ok.false

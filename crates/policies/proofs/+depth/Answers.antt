@@ -5,8 +5,8 @@ use Rattle.policies.specs.Array.{policy_at}
 use Rattle.policies.proofs.Depths.{depth_falls, depth-more, depth-done, depth-few, counted}
 use Rattle.policies.proofs.+depth.Goals as goal
 
-pub depth-d-requires : goal.depth-d-requires
-depth-d-requires t c =
+pub depth-requires : goal.depth-requires
+depth-requires t c =
     depth_falls c.args.pol.now c.args.i c.requires.0 c.requires.1 c.loop-j.j _ t c.child-c.ensures
     (counted (policy_at c.args.pol.now c.args.i) c.head_of-n.ensures) c.loop-j-test.true c.decreases
 
@@ -14,7 +14,7 @@ pub loop-j-preserved : goal.loop-j-preserved
 loop-j-preserved t c =
     depth-more c.args.pol.now c.args.i c.requires.0 c.requires.1 c.loop-j.j _ c.child-c.ensures
     (counted (policy_at c.args.pol.now c.args.i) c.head_of-n.ensures) c.loop-j-test.true
-    c.depth-d.ensures c.larger-deepest.ensures c.loop-j.invariant
+    c.depth.ensures c.max-deepest.ensures c.loop-j.invariant
 
 pub overflow_add-result : goal.overflow_add-result
 overflow_add-result t c =

@@ -1,17 +1,10 @@
 -- `policies::take_children` meets its contract: what is still to come of the taking gives what the taking of all gives. Assumes nothing.
 use mathlib.Core.Path.{sym, ◌∙◌}
 use Rattle.policies.proofs.Slots.{took-starts, took-later, took-twice, took_more, took-all}
-use native.Mathlib.Omega.{arith}
 use Rattle.policies.proofs.take_children.Goals as goal
 
 pub loop-j-init : goal.loop-j-init
 loop-j-init c = took-starts c.args.i c.args.n c.args.pol.now
-
-pub overflow_add-j : goal.overflow_add-j
-overflow_add-j c = omega arith
-
-pub word-c-requires : goal.word-c-requires
-word-c-requires c = (omega arith, omega arith)
 
 pub shape_of-pol-then-i-c : goal.shape_of-pol-then-i-c
 shape_of-pol-then-i-c c = c.loop-j.invariant.marked.long
@@ -20,33 +13,12 @@ pub returns-then-i-c : goal.returns-then-i-c
 returns-then-i-c c = took-later c.args.i c.args.n c.args.pol.now c.loop-j.pol c.loop-j.j c.requires.0 c.requires.1.0 c.requires.1.1 c.loop-j.invariant
     c.loop-j-test.true c.word-c.ensures c.if-i-c.true
 
-pub word-requires : goal.word-requires
-word-requires c = (omega arith, omega arith)
-
 pub shape_of-pol-then-word-ne0 : goal.shape_of-pol-then-word-ne0
 shape_of-pol-then-word-ne0 c = c.loop-j.invariant.marked.long
 
 pub returns-then-word-ne0 : goal.returns-then-word-ne0
 returns-then-word-ne0 c = took-twice c.args.i c.args.n c.args.pol.now c.loop-j.pol c.loop-j.j c.requires.0 c.requires.1.0 c.requires.1.1 c.loop-j.invariant
     c.loop-j-test.true c.word-c.ensures c.if-i-c.false (λ z. c.if-word-ne0.true (c.word.ensures ∙ z))
-
-pub overflow_mul-pol : goal.overflow_mul-pol
-overflow_mul-pol c = omega arith
-
-pub overflow_add-pol : goal.overflow_add-pol
-overflow_add-pol c = omega arith
-
-pub offset_bounds-pol-c : goal.offset_bounds-pol-c
-offset_bounds-pol-c c = omega arith
-
-pub bounds-pol-c : goal.bounds-pol-c
-bounds-pol-c c = omega (arith, c.loop-j.invariant.marked.long, c.requires.0.long)
-
-pub overflow_add-j-in-loop-j : goal.overflow_add-j-in-loop-j
-overflow_add-j-in-loop-j c = omega arith
-
-pub loop-j-smaller : goal.loop-j-smaller
-loop-j-smaller c = omega arith
 
 pub loop-j-preserved : goal.loop-j-preserved
 loop-j-preserved c = took_more c.args.i c.args.n c.args.pol.now c.loop-j.pol c.loop-j.j c.requires.0 c.requires.1.0 c.requires.1.1 c.loop-j.invariant

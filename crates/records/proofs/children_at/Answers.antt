@@ -9,24 +9,6 @@ pub loop-i-init : goal.loop-i-init
 unfolding u16s
 loop-i-init c = (refl, omega arith)
 
-pub overflow_mul-i : goal.overflow_mul-i
-overflow_mul-i c = omega arith
-
-pub overflow_add-at : goal.overflow_add-at
-overflow_add-at c = omega arith
-
-pub offset_bounds-children-i : goal.offset_bounds-children-i
-offset_bounds-children-i c = omega arith
-
-pub bounds-children-i : goal.bounds-children-i
-bounds-children-i c = omega arith
-
-pub overflow_add-i : goal.overflow_add-i
-overflow_add-i c = omega arith
-
-pub loop-i-smaller : goal.loop-i-smaller
-loop-i-smaller c = omega arith
-
 pub loop-i-preserved : goal.loop-i-preserved
 loop-i-preserved c = (
   rw (c.loop-i.invariant.0, c.u16_or_zero.ensures) (next-child c.args.bytes.now c.args.at c.loop-i.i (omega arith)),

@@ -12,16 +12,16 @@ pub slice_bounds-load_keys-end : goal.slice_bounds-load_keys-end
 slice_bounds-load_keys-end g c = sym (length-replicate {A = ℕ} 270337 0)
 
 pub slice_bounds-script_with_keys-end : goal.slice_bounds-script_with_keys-end
-slice_bounds-script_with_keys-end g c = loaded-length c.load_records.new.room c.load_records.ensures c.in-Bytes.is
+slice_bounds-script_with_keys-end g c = loaded-length c.load_records.new.room c.load_records.ensures c.in-Some.is
 
 pub slice_bounds-script_with_keys-end-2 : goal.slice_bounds-script_with_keys-end-2
-slice_bounds-script_with_keys-end-2 g c = loaded-length c.load_keys.new.room c.load_keys.ensures c.in-Bytes-load_keys.is
+slice_bounds-script_with_keys-end-2 g c = loaded-length c.load_keys.new.room c.load_keys.ensures c.in-Some-load_keys.is
 
 pub slice_bounds-tree-end : goal.slice_bounds-tree-end
-slice_bounds-tree-end g c = loaded-within c.load_records.new.room c.load_records.ensures c.in-Bytes.is
+slice_bounds-tree-end g c = loaded-within c.load_records.new.room c.load_records.ensures c.in-Some.is
 
 pub slice_bounds-keys-end : goal.slice_bounds-keys-end
-slice_bounds-keys-end g c = loaded-within c.load_keys.new.room c.load_keys.ensures c.in-Bytes-load_keys.is
+slice_bounds-keys-end g c = loaded-within c.load_keys.new.room c.load_keys.ensures c.in-Some-load_keys.is
 
 pub load_keys-requires : goal.load_keys-requires
 load_keys-requires g c = c.requires

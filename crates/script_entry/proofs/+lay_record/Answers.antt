@@ -1,11 +1,8 @@
 -- `script_entry::lay_record` meets its contract. What falls is the record's number: children come before their parents. Assumes nothing.
-use Rattle.script_entry.proofs.Laying.{none_yet, below, ready-below, few-children, small-place, child-less, leaf-laid, all_laid, child-laid}
-use Rattle.script_leaves.proofs.Laws.{keeps-length}
-use mathlib.Core.Path.{◌∙◌}
-use Prim.Native.Nat.{ℕ}
+use Rattle.script_entry.proofs.Laying.{none_yet, below, ready-below, small-place, child-less, leaf-laid, all_laid, child-laid}
 use native.Mathlib.Omega.{arith}
 use lib.ListN.{get_or}
-use Rattle.script_bytes.specs.Tables.{tables}
+use Rattle.script_leaves.specs.Lent.{lent}
 use Rattle.walk.specs.TreeRecords.{fragment_at}
 use Rattle.script_entry.specs.Pieces.{up_to}
 use Rattle.script_entry.proofs.+lay_record.Goals as goal
@@ -35,7 +32,7 @@ lay_record-end-requires t c =
 
 pub loop-j-preserved : goal.loop-j-preserved
 loop-j-preserved t c =
-    let its-tables = tables c.args.keys.now c.args.key_hashes.now c.args.hashes32.now c.args.hashes20.now in (
+    let its-tables = lent c.args.tables in (
       child-laid c.args.context its-tables c.node_at-node.result.kind c.args.verified
           (λ x. fragment_at c.args.tree.now (get_or c.node_at-node.result.children x 0)) c.loop-j.j c.loop-j.invariant.0 c.place.ensures
           c.child_verified.ensures c.lay_record-end.ensures c.put_after-to.ensures,

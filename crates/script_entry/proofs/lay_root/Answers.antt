@@ -1,13 +1,13 @@
 -- `script_entry::lay_root` meets its contract: the first run measures and writes nothing, the second writes what fits. Assumes nothing.
-use Rattle.script_bytes.specs.Tables.{tables}
+use Rattle.script_leaves.specs.Lent.{lent}
 use Rattle.walk.specs.TreeRecords.{fragment_at}
 use Rattle.script_entry.proofs.Runs.{fits, too_long}
 use Rattle.script_entry.proofs.lay_root.Goals as goal
 
-pub returns-then-n-out : goal.returns-then-n-out
-returns-then-n-out c = let t = tables c.args.keys.now c.args.key_hashes.now c.args.hashes32.now c.args.hashes20.now in
-    fits c.args.context t (fragment_at c.args.tree.now c.args.root) c.args.out.now c.lay_record-n.ensures c.if-n-out.true c.lay_record.ensures
+pub returns-then-out-n : goal.returns-then-out-n
+returns-then-out-n c = let t = lent c.args.tables in
+    too_long c.args.context t (fragment_at c.args.tree.now c.args.root) c.args.out.now c.lay_record-n.ensures c.if-out-n.true
 
 pub returns : goal.returns
-returns c = let t = tables c.args.keys.now c.args.key_hashes.now c.args.hashes32.now c.args.hashes20.now in
-    too_long c.args.context t (fragment_at c.args.tree.now c.args.root) c.args.out.now c.lay_record-n.ensures c.if-n-out.false
+returns c = let t = lent c.args.tables in
+    fits c.args.context t (fragment_at c.args.tree.now c.args.root) c.args.out.now c.lay_record-n.ensures c.if-out-n.false c.lay_record.ensures

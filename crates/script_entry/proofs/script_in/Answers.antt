@@ -4,7 +4,7 @@ use mathlib.Core.Path.{refl, sym, ◌∙◌}
 use native.Mathlib.Omega.{arith}
 use lib.ListN.{length}
 use Rattle.trees.specs.Reading.{max_records}
-use Rattle.script_bytes.specs.Tables.{tables}
+use Rattle.script_leaves.specs.Lent.{lent}
 use Rattle.walk.proofs.Laws.{all_placed, kept-length}
 use Rattle.script_entry.proofs.Scanning.{all-ready}
 use Rattle.script_entry.proofs.Runs.{with_entries, without-entry}
@@ -24,19 +24,14 @@ overflow_sub-root c = let room : max_records ≤ length c.args.work.now = omega 
 
 pub lay_root-requires : goal.lay_root-requires
 lay_root-requires c = let room : max_records ≤ length c.args.work.now = omega (arith, c.requires.1) in
-    let t = tables c.args.keys.now c.args.key_hashes.now c.args.hashes32.now c.args.hashes20.now in
+    let t = lent c.args.tables in
     all-ready c.args.context t c.requires.0.rows (c.scan-count.ensures.counts c.requires.0.root c.requires.0.rows) (all_placed c.scan-count.ensures c.requires.0.rows room)
-    (sym c.all_entries-all.ensures ∙ c.if-all.true)
+    (sym c.all_entries-all.ensures ∙ c.if-not-all.false)
 
-pub shape_of-work-then-all : goal.shape_of-work-then-all
-shape_of-work-then-all c = let room : max_records ≤ length c.args.work.now = omega (arith, c.requires.1) in
-    kept-length c.scan-count.ensures c.requires.0.rows room
-
-pub returns-then-all : goal.returns-then-all
-returns-then-all c = let room : max_records ≤ length c.args.work.now = omega (arith, c.requires.1) in
-    let t = tables c.args.keys.now c.args.key_hashes.now c.args.hashes32.now c.args.hashes20.now in record {
-      gives = (λ f rows. with_entries c.args.context t rows (c.scan-count.ensures.counts f rows) c.all_entries-all.ensures (length c.args.out.now) c.if-all.true
-          c.lay_root.ensures);
+pub returns-then-not-all : goal.returns-then-not-all
+returns-then-not-all c = let room : max_records ≤ length c.args.work.now = omega (arith, c.requires.1) in
+    let t = lent c.args.tables in record {
+      gives = (λ f rows. without-entry c.args.context t rows (c.scan-count.ensures.counts f rows) c.all_entries-all.ensures (length c.args.out.now) refl c.if-not-all.true);
       work_len_unchanged = kept-length c.scan-count.ensures c.requires.0.rows room;
     }
 
@@ -46,7 +41,8 @@ shape_of-work c = let room : max_records ≤ length c.args.work.now = omega (ari
 
 pub returns : goal.returns
 returns c = let room : max_records ≤ length c.args.work.now = omega (arith, c.requires.1) in
-    let t = tables c.args.keys.now c.args.key_hashes.now c.args.hashes32.now c.args.hashes20.now in record {
-      gives = (λ f rows. without-entry c.args.context t rows (c.scan-count.ensures.counts f rows) c.all_entries-all.ensures (length c.args.out.now) refl c.if-all.false);
+    let t = lent c.args.tables in record {
+      gives = (λ f rows. with_entries c.args.context t rows (c.scan-count.ensures.counts f rows) c.all_entries-all.ensures (length c.args.out.now) c.if-not-all.false
+          c.lay_root.ensures);
       work_len_unchanged = kept-length c.scan-count.ensures c.requires.0.rows room;
     }

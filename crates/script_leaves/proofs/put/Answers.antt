@@ -2,18 +2,11 @@
 use native.Mathlib.Omega.{arith}
 use Rattle.script_leaves.proofs.Laws.{past-laid}
 use Rattle.script_leaves.proofs.put.Goals as goal
-
-pub bounds-out-at : goal.bounds-out-at
-bounds-out-at c = omega arith
-
-pub overflow_add-result : goal.overflow_add-result
-overflow_add-result c = omega arith
-
-pub overflow_add-result-then-at-lt-MAX_POSITION : goal.overflow_add-result-then-at-lt-MAX_POSITION
-overflow_add-result-then-at-lt-MAX_POSITION c = omega arith
-
-pub returns-then-at-lt-MAX_POSITION : goal.returns-then-at-lt-MAX_POSITION
-returns-then-at-lt-MAX_POSITION c = past-laid c.args.out.now c.args.at c.args.b _ (omega arith) (omega arith) (omega arith)
+use Rattle.script_leaves.proofs.put.Goals.{then-at-out, else-at-out}
 
 pub returns : goal.returns
-returns c = past-laid c.args.out.now c.args.at c.args.b _ (omega arith) (omega arith) (omega arith)
+returns c =
+    elim c.if-at-out.branch [
+      | then-at-out w ↦ record { is = w.out-is; ends = omega arith; short = omega arith }
+      | else-at-out w ↦ rw w.out-is (past-laid c.args.out.now c.args.at c.args.b _ (omega arith) (omega arith) (omega arith))
+    ]

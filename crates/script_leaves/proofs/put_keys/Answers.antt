@@ -13,18 +13,12 @@ loop-j-init c = let t = only_keys c.args.keys.now in (
 )
 
 pub put_key-to-requires : goal.put_key-to-requires
-put_key-to-requires c = key-there c.args.context (only_keys c.args.keys.now) c.args.bytes.now c.args.count c.loop-j.j _ c.key_at-i.ensures c.loop-j-test.true
+put_key-to-requires c = key-there c.args.context (only_keys c.args.keys.now) c.args.bytes.now c.args.count c.loop-j.j _ c.key_at.ensures c.loop-j-test.true
     c.loop-j.invariant.1
-
-pub overflow_add-j : goal.overflow_add-j
-overflow_add-j c = omega arith
-
-pub loop-j-smaller : goal.loop-j-smaller
-loop-j-smaller c = omega arith
 
 pub loop-j-preserved : goal.loop-j-preserved
 loop-j-preserved c = let t = only_keys c.args.keys.now in (
-  more-coming (key-next c.args.context t c.args.bytes.now c.args.count c.loop-j.j _ c.key_at-i.ensures c.loop-j-test.true)
+  more-coming (key-next c.args.context t c.args.bytes.now c.args.count c.loop-j.j _ c.key_at.ensures c.loop-j-test.true)
       c.loop-j.invariant.0 c.put_key-to.ensures,
   others-there c.args.context t c.args.bytes.now c.args.count c.loop-j.j c.loop-j-test.true c.loop-j.invariant.1,
   omega arith,

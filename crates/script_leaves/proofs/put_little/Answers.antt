@@ -12,12 +12,6 @@ loop-i-init c = (all-coming (Little.bytes_of (c.args.width - 0) c.args.n) (littl
 pub overflow_cast-rest : goal.overflow_cast-rest
 overflow_cast-rest c = omega arith
 
-pub overflow_add-i : goal.overflow_add-i
-overflow_add-i c = omega arith
-
-pub loop-i-smaller : goal.loop-i-smaller
-loop-i-smaller c = omega arith
-
 pub loop-i-preserved : goal.loop-i-preserved
 loop-i-preserved c = (more-coming (little-next c.args.width c.loop-i.i c.loop-i.rest (omega arith)) c.loop-i.invariant.0 c.put-to.ensures, omega arith)
 

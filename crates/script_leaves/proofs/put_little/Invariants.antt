@@ -6,6 +6,3 @@ use Rattle.script_leaves.proofs.put_little.Given as goal
 
 abbrev pub invariant-loop-i : goal.invariant-loop-i
 invariant-loop-i l = Coming l.initial.out l.at (Little.bytes_of l.width l.n) l.out l.to (Little.bytes_of (l.width - l.i) l.rest) × (l.i ≤ l.width)
-
-abbrev pub decreases-loop-i : goal.decreases-loop-i
-decreases-loop-i l = l.width - l.i

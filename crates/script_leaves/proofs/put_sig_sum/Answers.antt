@@ -13,18 +13,12 @@ loop-j-init c = let t = only_keys c.args.keys.now in (
 )
 
 pub put_key-next-requires : goal.put_key-next-requires
-put_key-next-requires c = key-there c.args.context (only_keys c.args.keys.now) c.args.bytes.now c.args.count c.loop-j.j _ c.key_at-i.ensures c.loop-j-test.true
+put_key-next-requires c = key-there c.args.context (only_keys c.args.keys.now) c.args.bytes.now c.args.count c.loop-j.j _ c.key_at.ensures c.loop-j-test.true
     c.loop-j.invariant.1
-
-pub overflow_add-j : goal.overflow_add-j
-overflow_add-j c = omega arith
-
-pub loop-j-smaller : goal.loop-j-smaller
-loop-j-smaller c = omega arith
 
 pub loop-j-preserved : goal.loop-j-preserved
 loop-j-preserved c = let t = only_keys c.args.keys.now in (
-  more-coming (sig-next c.args.context t c.args.bytes.now c.args.count c.loop-j.j c.loop-j.opcode _ c.key_at-i.ensures c.loop-j-test.true)
+  more-coming (sig-next c.args.context t c.args.bytes.now c.args.count c.loop-j.j c.loop-j.opcode _ c.key_at.ensures c.loop-j-test.true)
       c.loop-j.invariant.0 (then-laid c.put_key-next.ensures c.put-to.ensures),
   others-there c.args.context t c.args.bytes.now c.args.count c.loop-j.j c.loop-j-test.true c.loop-j.invariant.1,
   omega arith,

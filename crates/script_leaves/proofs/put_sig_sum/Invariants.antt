@@ -1,7 +1,7 @@
 -- `script_leaves::put_sig_sum` meets its contract: the keys still to come are laid after those before them. Assumes nothing.
 use mathlib.Core.Bool.{true}
 use mathlib.Core.Path.{◌≡◌}
-use Prim.Native.Nat.{◌-◌, ◌≤◌}
+use Prim.Native.Nat.{◌≤◌}
 use Rattle.records.specs.Payloads.{first_keys, keys_from}
 use Rattle.script_bytes.specs.ScriptOf.{has_keys}
 use Rattle.script_bytes.specs.Layout.{sig_sum_bytes}
@@ -15,6 +15,3 @@ invariant-loop-j l = Coming l.initial.out l.at (sig_sum_bytes l.context (only_ke
     (sigs_bytes l.context (only_keys l.keys) l.opcode (keys_from l.bytes l.count l.j))
     × (has_keys l.context (only_keys l.keys) (keys_from l.bytes l.count l.j) ≡ true)
     × (l.j ≤ l.count)
-
-abbrev pub decreases-loop-j : goal.decreases-loop-j
-decreases-loop-j l = l.count - l.j

@@ -1,10 +1,11 @@
 -- The functions that call one another in a search meet their contracts. Each answer cites a lemma of proofs/ on what the calls before it leave.
 -- A call asks first that `rank` falls, and then what the callee requires. Assumes nothing.
+use Rattle.std.specs.Prelude.{Ok}
 use Rattle.std.proofs.Common.{rules}
+use Rattle.std.proofs.lemmas.Result.{err_from_is_err_and}
 use mathlib.Core.Path.{refl, sym, ◌≡◌, ◌∙◌}
 use native.Mathlib.Omega.{arith}
 use lib.ListN.{length-set, length, take}
-use Rattle.candidates.specs.declared.Made.TheVariants as Made
 use Rattle.definition.specs.Tables.{probs}
 use Rattle.definition_laws.specs.Bodies.{again_in}
 use Rattle.policies.specs.Array.{policy_at}
@@ -12,18 +13,20 @@ use Rattle.nodes.proofs.Leaves.{pk-h-offers, pk-k-offers}
 use Rattle.policies.proofs.Forms.{two-and, two-or}
 use Rattle.definition.specs.Search as definition
 use Rattle.search.proofs.Asking.{going_more, going-again}
-use Rattle.search.proofs.Wrapping.{stops, doing-next, doing-going, made-wrapped, passed_over}
+use Rattle.search.proofs.Wrapping.{stays, doing-next, doing-going, made-wrapped, passed_over}
 use Rattle.search.proofs.Wrapping.{missing-refused, wrapped-doing, wrapped-plain, wrapped-casts, wrapped-settled}
 use Rattle.search.proofs.Wrapping.{unsettled, settled_on, settled-from}
 use Rattle.search.proofs.Passing.{small-if-made, leaves-passes, pair-moves}
 use Rattle.search.proofs.Wrapping.{flag-some, cast-refused, cast-ready, cast-done, casts-begin, casts-going}
-use Rattle.search.proofs.Wrapping.{casts-end, casts-refused, casts-go-on}
-use Rattle.search.proofs.Threshes.{searched-slot, bests-begin, best-found, best-missing, best-refused}
+use Rattle.search.proofs.Wrapping.{casts-end, casts-stop, casts-go-on}
+use Rattle.search.proofs.Threshes.{searched-slot, bests-begin, best-chosen, best-refused}
 use Rattle.search.proofs.Tabling.{fold_stays, thresh-offers, body-thresh}
 use Rattle.search.proofs.ThreshAnswers.{going-small, doing-small, multi-yes, multi-no, fold-falls-to, fold-going}
 use Rattle.search.proofs.ThreshAnswers.{folded-no, folded-yes, gaining-asks, made_asks, made-doing, gaining-less}
 use Rattle.search.proofs.ThreshAnswers.{thresh-no}
 use Rattle.search.proofs.Ranks.{below}
+use Rattle.search.proofs.Steps.{tabled-well}
+use Rattle.offers.proofs.Ends.{end-done}
 use Rattle.search.proofs.StageAnswers.{no_ask, no_pairing, ask-falls}
 use Rattle.search.proofs.Staging.{asking-begins, asking-ends, asking-going, asking-refused}
 use Rattle.search.proofs.Staging.{asking-goes-on, stage-refused, stage-doing, stage-paired, stage-done}
@@ -58,9 +61,12 @@ all_bests-best_of-requires t c =
           c.args.child_dissat,
     )
 
-pub all_bests-returns-in-Refused : goal.all_bests-returns-in-Refused
-all_bests-returns-in-Refused t c = first-refused c.args.context (probs c.args.child_sat c.args.child_dissat) c.requires.0 c.requires.1.1 c.loop-j.invariant.0
-    c.loop-j-test.true c.child-a.ensures c.best_of.ensures c.in-Refused.is _ _
+pub all_bests-returns-in_err-es : goal.all_bests-returns-in_err-es
+all_bests-returns-in_err-es t c =
+    let p = err_from_is_err_and c.from_residual.result c.from_residual.ensures.1 in
+    rw (p.1, p.2)
+    (first-refused c.args.context (probs c.args.child_sat c.args.child_dissat) c.requires.0 c.requires.1.1 c.loop-j.invariant.0
+    c.loop-j-test.true c.child-a.ensures c.best_of.ensures c.in_err-es.was)
 
 pub all_bests-offset_bounds-es-j : goal.all_bests-offset_bounds-es-j
 all_bests-offset_bounds-es-j t c = omega (arith, few-children c.requires.0 c.requires.1.0 c.requires.1.1, c.loop-j-test.true)
@@ -75,12 +81,15 @@ all_bests-best_of-requires-in-loop-j t c =
           (child-rank c.args.context p c.requires.0 c.requires.1.1 c.loop-j.invariant.0 c.loop-j-test.true c.child-a.ensures
           c.args.child_dissat) c.decreases,
       second-going c.args.context p c.requires.0 c.requires.1.1 c.loop-j.invariant.0 c.loop-j-test.true c.child-a.ensures
-          c.best_of.ensures c.in-At.is c.args.child_dissat,
+          c.best_of.ensures c.in_ok-es.was c.args.child_dissat,
     )
 
-pub all_bests-returns-in-Refused-best_of : goal.all_bests-returns-in-Refused-best_of
-all_bests-returns-in-Refused-best_of t c = second-refused c.args.context (probs c.args.child_sat c.args.child_dissat) c.requires.0 c.requires.1.1 c.loop-j.invariant.0
-    c.loop-j-test.true c.child-a.ensures c.best_of.ensures c.in-At.is c.best_of-in-loop-j.ensures c.in-Refused-best_of.is _ _
+pub all_bests-returns-in_err-ws : goal.all_bests-returns-in_err-ws
+all_bests-returns-in_err-ws t c =
+    let p = err_from_is_err_and c.from_residual-in_err-ws.result c.from_residual-in_err-ws.ensures.1 in
+    rw (p.1, p.2)
+    (second-refused c.args.context (probs c.args.child_sat c.args.child_dissat) c.requires.0 c.requires.1.1 c.loop-j.invariant.0
+    c.loop-j-test.true c.child-a.ensures c.best_of.ensures c.in_ok-es.was c.best_of-in-loop-j.ensures c.in_err-ws.was)
 
 pub all_bests-offset_bounds-ws-j : goal.all_bests-offset_bounds-ws-j
 all_bests-offset_bounds-ws-j t c = omega (arith, few-children c.requires.0 c.requires.1.0 c.requires.1.1, c.loop-j-test.true)
@@ -88,15 +97,9 @@ all_bests-offset_bounds-ws-j t c = omega (arith, few-children c.requires.0 c.req
 pub all_bests-bounds-ws-j : goal.all_bests-bounds-ws-j
 all_bests-bounds-ws-j t c = omega (arith, few-children c.requires.0 c.requires.1.0 c.requires.1.1, c.loop-j-test.true)
 
-pub all_bests-overflow_add-j : goal.all_bests-overflow_add-j
-all_bests-overflow_add-j t c = omega (arith, few-children c.requires.0 c.requires.1.0 c.requires.1.1, c.loop-j-test.true)
-
-pub all_bests-loop-j-smaller : goal.all_bests-loop-j-smaller
-all_bests-loop-j-smaller t c = omega (arith, c.loop-j-test.true)
-
 pub all_bests-loop-j-preserved : goal.all_bests-loop-j-preserved
 all_bests-loop-j-preserved t c = both_found c.args.context (probs c.args.child_sat c.args.child_dissat) c.requires.0 c.requires.1.1 c.loop-j.invariant.0
-    c.loop-j-test.true c.child-a.ensures c.best_of.ensures c.in-At.is c.best_of-in-loop-j.ensures c.in-At-best_of.is
+    c.loop-j-test.true c.child-a.ensures c.best_of.ensures c.in_ok-es.was c.best_of-in-loop-j.ensures c.in_ok-ws.was
     (few-children c.requires.0 c.requires.1.0 c.requires.1.1) c.loop-j.invariant.1.1.0 c.loop-j.invariant.1.1.1
 
 pub all_bests-returns : goal.all_bests-returns
@@ -167,67 +170,68 @@ pub best_of-search-requires : goal.best_of-search-requires
 best_of-search-requires t c = (below (omega arith) c.decreases, c.requires)
 
 pub best_of-choose-requires : goal.best_of-choose-requires
-best_of-choose-requires t c = searched-slot c.search.ensures _ c.in-Slot.is
+best_of-choose-requires t c = searched-slot c.search.ensures _ c.in_ok-s.was
 
-pub best_of-returns-in-Refused : goal.best_of-returns-in-Refused
-best_of-returns-in-Refused t c = best-refused c.args.context (policy_at c.args.pol.now c.args.r) (probs c.args.sat c.args.dissat) c.args.want
-    c.search.ensures _ c.in-Refused.is
+pub best_of-returns-in_err-s : goal.best_of-returns-in_err-s
+best_of-returns-in_err-s t c =
+    let p = err_from_is_err_and c.from_residual.result c.from_residual.ensures.1 in
+    rw (p.1, p.2)
+    (best-refused c.args.context (policy_at c.args.pol.now c.args.r) (probs c.args.sat c.args.dissat) c.args.want
+    c.search.ensures _ c.in_err-s.was)
 
-pub best_of-returns-in-At : goal.best_of-returns-in-At
-best_of-returns-in-At t c = best-found c.args.context (policy_at c.args.pol.now c.args.r) (probs c.args.sat c.args.dissat) c.args.want
-    c.search.ensures _ c.in-Slot.is c.choose.ensures _ c.in-At.is
-
-pub best_of-returns-in-Missing : goal.best_of-returns-in-Missing
-best_of-returns-in-Missing t c = best-missing c.args.context (policy_at c.args.pol.now c.args.r) (probs c.args.sat c.args.dissat) c.args.want
-    c.search.ensures _ c.in-Slot.is c.choose.ensures c.in-Missing.is
+pub best_of-returns : goal.best_of-returns
+best_of-returns t c = rw c.ok_or.ensures.value
+    (best-chosen c.args.context (policy_at c.args.pol.now c.args.r) (probs c.args.sat c.args.dissat) c.args.want
+    c.search.ensures _ c.in_ok-s.was c.choose.ensures)
 
 pub body-and_body-requires : goal.body-and_body-requires
-body-and_body-requires t c = (below (omega arith) c.decreases, (c.requires, head-kind (policy_at c.args.pol.now c.args.r) c.head_of-head.ensures c.if-kind-eq-AND.true))
+body-and_body-requires t c = (below (omega arith) c.decreases, (c.requires, head-kind (policy_at c.args.pol.now c.args.r) c.head_of-head.ensures c.in-10.is))
 
-pub body-returns-then-kind-eq-AND : goal.body-returns-then-kind-eq-AND
-body-returns-then-kind-eq-AND t c = tabled-one c.and_body.ensures
+pub body-returns-in-10 : goal.body-returns-in-10
+body-returns-in-10 t c = tabled-one c.and_body.ensures
 
 pub body-overflow_cast-head : goal.body-overflow_cast-head
 body-overflow_cast-head t c =
     let q = policy_at c.args.pol.now c.args.r in
     omega
-    (arith, (head-low q c.head_of-head.ensures (or-weights q c.requires.formed (head-kind q c.head_of-head.ensures c.if-kind-eq-OR.true))).0)
+    (arith, (head-low q c.head_of-head.ensures (or-weights q c.requires.formed (head-kind q c.head_of-head.ensures c.in-11.is))).0)
 
-pub body-overflow_cast-head-then-kind-eq-OR : goal.body-overflow_cast-head-then-kind-eq-OR
-body-overflow_cast-head-then-kind-eq-OR t c =
+pub body-overflow_cast-head-in-11 : goal.body-overflow_cast-head-in-11
+body-overflow_cast-head-in-11 t c =
     let q = policy_at c.args.pol.now c.args.r in
     omega
-    (arith, (head-low q c.head_of-head.ensures (or-weights q c.requires.formed (head-kind q c.head_of-head.ensures c.if-kind-eq-OR.true))).1)
+    (arith, (head-low q c.head_of-head.ensures (or-weights q c.requires.formed (head-kind q c.head_of-head.ensures c.in-11.is))).1)
 
 pub body-or_body-requires : goal.body-or_body-requires
 body-or_body-requires t c = (
   below (omega arith) c.decreases,
-  (c.requires, head-or (policy_at c.args.pol.now c.args.r) c.head_of-head.ensures c.if-kind-eq-OR.true refl refl),
+  (c.requires, head-or (policy_at c.args.pol.now c.args.r) c.head_of-head.ensures c.in-11.is refl refl),
 )
 
-pub body-returns-then-kind-eq-OR : goal.body-returns-then-kind-eq-OR
-body-returns-then-kind-eq-OR t c = tabled-one c.or_body.ensures
+pub body-returns-in-11 : goal.body-returns-in-11
+body-returns-in-11 t c = tabled-one c.or_body.ensures
 
-pub body-overflow_cast-head-then-kind-eq-THRESH : goal.body-overflow_cast-head-then-kind-eq-THRESH
-body-overflow_cast-head-then-kind-eq-THRESH t c = omega (arith, thresh-k-low c.requires.classed.good c.requires.named c.requires.formed c.head_of-head.ensures c.if-kind-eq-THRESH.true)
+pub body-overflow_cast-head-in-12 : goal.body-overflow_cast-head-in-12
+body-overflow_cast-head-in-12 t c = omega (arith, thresh-k-low c.requires.classed.good c.requires.named c.requires.formed c.head_of-head.ensures c.in-12.is)
 
 pub body-thresh_body-requires : goal.body-thresh_body-requires
 body-thresh_body-requires t c = (
   below (omega arith) c.decreases,
-  (c.requires, head-thresh (policy_at c.args.pol.now c.args.r) c.head_of-head.ensures c.if-kind-eq-THRESH.true refl refl),
+  (c.requires, head-thresh (policy_at c.args.pol.now c.args.r) c.head_of-head.ensures c.in-12.is refl refl),
 )
 
-pub body-returns-then-kind-eq-THRESH : goal.body-returns-then-kind-eq-THRESH
-body-returns-then-kind-eq-THRESH t c = c.thresh_body.ensures
+pub body-returns-in-12 : goal.body-returns-in-12
+body-returns-in-12 t c = c.thresh_body.ensures
 
 pub body-leaves-requires : goal.body-leaves-requires
-body-leaves-requires t c = (
-  below (omega arith) c.decreases,
-  (c.requires, head-leaf (policy_at c.args.pol.now c.args.r) c.head_of-head.ensures c.if-kind-eq-AND.false c.if-kind-eq-OR.false c.if-kind-eq-THRESH.false),
-)
+body-leaves-requires t c =
+    let no = c.in_default.in_default-own.rest in (
+      below (omega arith) c.decreases,
+      (c.requires, head-leaf (policy_at c.args.pol.now c.args.r) c.head_of-head.ensures no.0.0.1 no.0.1 no.1),
+    )
 
-pub body-returns : goal.body-returns
-body-returns t c = tabled-one c.leaves.ensures
+pub body-returns-in_default : goal.body-returns-in_default
+body-returns-in_default t c = tabled-one c.leaves.ensures
 
 pub cast_once-search-requires : goal.cast_once-search-requires
 cast_once-search-requires t c = (
@@ -240,82 +244,77 @@ cast_once-cast_entries-requires t c =
     let p = probs c.args.sat c.args.dissat in
     let q = policy_at c.args.pol.now c.args.r in
     let plain = definition.search c.args.context q (definition.without p) in
-    let ready = cast-ready c.args.context p plain c.args.number c.requires.0.0.ready c.requires.0.1 c.search.ensures c.in-Slot.is in
+    let ready = cast-ready c.args.context p plain c.args.number c.requires.0.0.ready c.requires.0.1 c.search.ensures c.in-Ok.is in
     (ready.0, (ready.1, c.requires.1.1))
 
-pub cast_once-returns-in-Refused : goal.cast_once-returns-in-Refused
-cast_once-returns-in-Refused t c =
+pub cast_once-returns-in-Err : goal.cast_once-returns-in-Err
+cast_once-returns-in-Err t c =
     let p = probs c.args.sat c.args.dissat in
     let q = policy_at c.args.pol.now c.args.r in
     let plain = definition.search c.args.context q (definition.without p) in
-    cast-refused c.args.context p plain c.args.number c.requires.0.0.ready c.requires.0.1 c.search.ensures c.in-Refused.is
+    cast-refused c.args.context p plain c.args.number c.requires.0.0.ready c.requires.0.1 c.search.ensures c.in-Err.is
 
-pub cast_once-returns-in-Slot : goal.cast_once-returns-in-Slot
-cast_once-returns-in-Slot t c =
+pub cast_once-returns-in-Ok : goal.cast_once-returns-in-Ok
+cast_once-returns-in-Ok t c =
     let p = probs c.args.sat c.args.dissat in
     let q = policy_at c.args.pol.now c.args.r in
     let plain = definition.search c.args.context q (definition.without p) in
-    cast-done c.args.context p plain c.args.number c.requires.0.0.ready c.requires.0.1 c.search.ensures c.in-Slot.is
+    cast-done c.args.context p plain c.args.number c.requires.0.0.ready c.requires.0.1 c.search.ensures c.in-Ok.is
     c.cast_entries.ensures
 
-pub casts_of-returns-in-Refused : goal.casts_of-returns-in-Refused
-casts_of-returns-in-Refused t c = stops c.requires.0 _ c.in-Refused.is
+pub casts_of-returns-then-is_err : goal.casts_of-returns-then-is_err
+casts_of-returns-then-is_err t c = stays c.requires.0 _ (sym c.is_err.ensures.value ∙ c.if-is_err.true)
 
 pub casts_of-loop-number-init : goal.casts_of-loop-number-init
 casts_of-loop-number-init t c =
     let p = probs c.args.sat c.args.dissat in
     let q = policy_at c.args.pol.now c.args.r in
     let plain = definition.search c.args.context q (definition.without p) in
-    (casts-begin c.args.context p plain c.requires.0 c.in-Done.is, omega arith)
+    let well = end-done _ (sym c.is_err.ensures.value ∙ c.if-is_err.false) in
+    (casts-begin c.args.context p plain c.requires.0 well, well)
 
-pub casts_of-cast_once-next-requires : goal.casts_of-cast_once-next-requires
-casts_of-cast_once-next-requires t c =
+pub casts_of-cast_once-done-requires : goal.casts_of-cast_once-done-requires
+casts_of-cast_once-done-requires t c =
     let p = probs c.args.sat c.args.dissat in
     let q = policy_at c.args.pol.now c.args.r in
-    let plain = definition.search c.args.context q (definition.without p) in (
+    let plain = definition.search c.args.context q (definition.without p) in
+    let well = end-done _ (sym c.is_err.ensures.value ∙ c.if-is_err.false) in (
       below (omega arith) c.decreases,
       (
-        (casts-going c.args.context p plain c.requires.0 c.in-Done.is c.loop-number.invariant.0, c.loop-number.invariant.0.table),
+        (casts-going c.args.context p plain c.requires.0 well c.loop-number.invariant.0, c.loop-number.invariant.0.table),
         (c.requires.1, c.loop-number-test.true),
       ),
     )
 
-pub casts_of-returns-in-Refused-stop : goal.casts_of-returns-in-Refused-stop
-casts_of-returns-in-Refused-stop t c =
+pub casts_of-returns-then-is_err-2 : goal.casts_of-returns-then-is_err-2
+casts_of-returns-then-is_err-2 t c =
     let p = probs c.args.sat c.args.dissat in
     let q = policy_at c.args.pol.now c.args.r in
     let plain = definition.search c.args.context q (definition.without p) in
-    casts-refused c.args.context p plain c.requires.0 c.in-Done.is c.loop-number.invariant.0 c.loop-number-test.true
-    c.cast_once-next.ensures c.in-Refused-stop.is
-
-pub casts_of-overflow_add-number : goal.casts_of-overflow_add-number
-casts_of-overflow_add-number t c = omega (arith, c.loop-number-test.true)
-
-pub casts_of-loop-number-smaller : goal.casts_of-loop-number-smaller
-casts_of-loop-number-smaller t c = omega (arith, c.loop-number-test.true)
+    casts-stop c.args.context p plain c.requires.0 (end-done _ (sym c.is_err.ensures.value ∙ c.if-is_err.false)) c.loop-number.invariant.0 c.loop-number-test.true
+    c.cast_once-done.ensures (sym c.is_err-in-loop-number.ensures.value ∙ c.if-is_err-2.true)
 
 pub casts_of-loop-number-preserved : goal.casts_of-loop-number-preserved
 casts_of-loop-number-preserved t c =
     let p = probs c.args.sat c.args.dissat in
     let q = policy_at c.args.pol.now c.args.r in
-    let plain = definition.search c.args.context q (definition.without p) in (
-      casts-go-on c.args.context p plain c.requires.0 c.in-Done.is c.loop-number.invariant.0 c.loop-number-test.true
-          c.cast_once-next.ensures c.in-Done-stop.is,
-      omega (arith, c.loop-number-test.true),
-    )
+    let plain = definition.search c.args.context q (definition.without p) in
+    let next = end-done _ (sym c.is_err-in-loop-number.ensures.value ∙ c.if-is_err-2.false) in
+    (casts-go-on c.args.context p plain c.requires.0 (end-done _ (sym c.is_err.ensures.value ∙ c.if-is_err.false)) c.loop-number.invariant.0 c.loop-number-test.true c.cast_once-done.ensures next, next)
 
 pub casts_of-returns : goal.casts_of-returns
 casts_of-returns t c =
     let p = probs c.args.sat c.args.dissat in
     let q = policy_at c.args.pol.now c.args.r in
     let plain = definition.search c.args.context q (definition.without p) in
-    casts-end c.args.context p plain c.requires.0 c.in-Done.is c.loop-number.invariant.0 c.loop-number-test.false c.loop-number.invariant.1
+    tabled-well c.loop-number.invariant.1
+    (casts-end c.args.context p plain c.requires.0 (end-done _ (sym c.is_err.ensures.value ∙ c.if-is_err.false)) c.loop-number.invariant.0 c.loop-number-test.false c.loop-number.auto.number-end)
 
 pub folded-returns-then-k-n : goal.folded-returns-then-k-n
 folded-returns-then-k-n t c = fold_stays c.args.context _ c.requires.1 c.args.c c.if-k-n.true c.requires.0.ready c.requires.0.table
 
-pub folded-returns-in-Refused : goal.folded-returns-in-Refused
-folded-returns-in-Refused t c = stops c.requires.0 _ c.in-Refused.is
+pub folded-returns-then-is_err : goal.folded-returns-then-is_err
+folded-returns-then-is_err t c = stays c.requires.0 _ (sym c.is_err.ensures.value ∙ c.if-is_err.true)
 
 pub folded-folded_of-f-requires : goal.folded-folded_of-f-requires
 folded-folded_of-f-requires t c = ((doing-small c.requires.0 c.requires.1).stored, (doing-small c.requires.0 c.requires.1).few)
@@ -323,19 +322,19 @@ folded-folded_of-f-requires t c = ((doing-small c.requires.0 c.requires.1).store
 pub folded-search-requires : goal.folded-search-requires
 folded-search-requires t c = (
   fold-falls-to c.requires.0 c.requires.1 c.folded_of-f.ensures c.decreases,
-  fold-going c.requires.0 c.requires.1 c.folded_of-f.ensures c.in-Done.is,
+  fold-going c.requires.0 c.requires.1 c.folded_of-f.ensures (end-done _ (sym c.is_err.ensures.value ∙ c.if-is_err.false)),
 )
 
-pub folded-table_of-folded_table-requires : goal.folded-table_of-folded_table-requires
-folded-table_of-folded_table-requires t c = (c.search.ensures.ready.tables, (searched-slot c.search.ensures _ c.in-Slot.is).1.0)
+pub folded-table_of-requires : goal.folded-table_of-requires
+folded-table_of-requires t c = (c.search.ensures.ready.tables, (searched-slot c.search.ensures _ c.in-Ok.is).1.0)
 
-pub folded-returns-in-Refused-search : goal.folded-returns-in-Refused-search
-folded-returns-in-Refused-search t c = folded-no c.requires.0 c.requires.1 c.folded_of-f.ensures c.args.context c.args.sat c.if-k-n.false c.in-Done.is
-    c.search.ensures c.in-Refused-search.is
+pub folded-returns-in-Err : goal.folded-returns-in-Err
+folded-returns-in-Err t c = folded-no c.requires.0 c.requires.1 c.folded_of-f.ensures c.args.context c.args.sat c.if-k-n.false (end-done _ (sym c.is_err.ensures.value ∙ c.if-is_err.false))
+    c.search.ensures c.in-Err.is
 
-pub folded-returns-in-Slot : goal.folded-returns-in-Slot
-folded-returns-in-Slot t c = folded-yes c.requires.0 c.requires.1 c.folded_of-f.ensures c.args.context c.args.sat c.if-k-n.false c.in-Done.is
-    c.search.ensures c.in-Slot.is c.table_of-folded_table.ensures
+pub folded-returns-in-Ok : goal.folded-returns-in-Ok
+folded-returns-in-Ok t c = folded-yes c.requires.0 c.requires.1 c.folded_of-f.ensures c.args.context c.args.sat c.if-k-n.false (end-done _ (sym c.is_err.ensures.value ∙ c.if-is_err.false))
+    c.search.ensures c.in-Ok.is c.table_of.ensures
 
 pub leaves-overflow_cast-r : goal.leaves-overflow_cast-r
 leaves-overflow_cast-r t c = omega (arith, named-low c.requires.0.classed.good c.requires.0.named)
@@ -366,7 +365,7 @@ leaves-wrapped-requires t c =
       (
         doing-next doing _ c.wrapped-c.ensures,
         offers-as c.pk_k.ensures (pk-k-offers c.wrapped-c.new.work c.args.context c.args.r),
-        settled-from c.args.context c.args.sat doing (Made.Candidate c.pk_h-h.result)
+        settled-from c.args.context c.args.sat doing (Ok c.pk_h-h.result)
             (made-wrapped c.args.context p again doing refl c.wrapped-c.ensures) c.settles-settled.ensures,
       ),
     )
@@ -503,9 +502,6 @@ pair-wrapped_if_made-done-requires t c =
 pub pair-settles-settled-requires : goal.pair-settles-settled-requires
 pair-settles-settled-requires t c = (c.loop-i.invariant.0.doing.classed, (c.loop-i.invariant.0.doing.named, c.wrapped_if_made-done.ensures.ready))
 
-pub pair-loop-i-smaller : goal.pair-loop-i-smaller
-pair-loop-i-smaller t c = omega (arith, c.loop-i-test.true)
-
 pub pair-loop-i-preserved : goal.pair-loop-i-preserved
 pair-loop-i-preserved t c =
     let p = probs c.args.sat c.args.dissat in
@@ -573,12 +569,6 @@ pair_all-pair-next-requires t c =
       ),
     )
 
-pub pair_all-overflow_add-i : goal.pair_all-overflow_add-i
-pair_all-overflow_add-i t c = omega (arith, c.loop-i-test.true, c.requires.1.0)
-
-pub pair_all-loop-i-smaller : goal.pair_all-loop-i-smaller
-pair_all-loop-i-smaller t c = omega (arith, c.loop-i-test.true)
-
 pub pair_all-loop-i-preserved : goal.pair_all-loop-i-preserved
 pair_all-loop-i-preserved t c =
     let p = probs c.args.sat c.args.dissat in
@@ -608,11 +598,11 @@ search-body-c-requires t c = (below (omega arith) c.decreases, c.requires)
 pub search-remember-requires : goal.search-remember-requires
 search-remember-requires t c = (c.requires.classed, (c.requires.named, (c.body-c.ensures.ready, c.body-c.ensures.table)))
 
-pub search-returns-in-At : goal.search-returns-in-At
-search-returns-in-At t c = search-found c.args.context c.requires.ready c.in-At.s c.in-At.is c.recall.ensures
+pub search-returns-in-Some : goal.search-returns-in-Some
+search-returns-in-Some t c = search-found c.args.context c.requires.ready c.in-Some.s c.in-Some.is c.recall.ensures
 
-pub search-returns-in-Missing : goal.search-returns-in-Missing
-search-returns-in-Missing t c = search-made c.args.context c.requires.ready c.in-Missing.is c.recall.ensures c.body-c.ensures c.remember.ensures
+pub search-returns-in-None : goal.search-returns-in-None
+search-returns-in-None t c = search-made c.args.context c.requires.ready c.in-None.is c.recall.ensures c.body-c.ensures c.remember.ensures
 
 pub search_all-loop-j-init : goal.search_all-loop-j-init
 search_all-loop-j-init t c = (asking-begins c.args.context c.args.asks c.args.n c.requires.0.ready _, (omega arith, refl))
@@ -630,27 +620,23 @@ search_all-search-requires t c =
           c.loop-j.invariant.0 c.loop-j-test.true no_ask refl c.requires.0 c.requires.1.1,
     )
 
-pub search_all-returns-in-Refused : goal.search_all-returns-in-Refused
-search_all-returns-in-Refused t c =
+pub search_all-returns-in_err-slots : goal.search_all-returns-in_err-slots
+search_all-returns-in_err-slots t c =
     let long : length c.args.asks ≡ 8 = search rules in
-    asking-refused c.args.context c.args.asks c.args.n (omega (arith, long, c.requires.1.0)) c.loop-j.j c.loop-j.slots
-    c.loop-j.invariant.0 c.loop-j-test.true no_ask refl c.search.ensures c.in-Refused.is
+    let p = err_from_is_err_and c.from_residual.result c.from_residual.ensures.1 in
+    rw (p.1, p.2)
+    (asking-refused c.args.context c.args.asks c.args.n (omega (arith, long, c.requires.1.0)) c.loop-j.j c.loop-j.slots
+    c.loop-j.invariant.0 c.loop-j-test.true no_ask refl c.search.ensures c.in_err-slots.was)
 
 pub search_all-bounds-slots-j : goal.search_all-bounds-slots-j
 search_all-bounds-slots-j t c = omega (arith, c.loop-j-test.true, c.requires.1.0)
-
-pub search_all-overflow_add-j : goal.search_all-overflow_add-j
-search_all-overflow_add-j t c = omega (arith, c.loop-j-test.true, c.requires.1.0)
-
-pub search_all-loop-j-smaller : goal.search_all-loop-j-smaller
-search_all-loop-j-smaller t c = omega (arith, c.loop-j-test.true)
 
 pub search_all-loop-j-preserved : goal.search_all-loop-j-preserved
 search_all-loop-j-preserved t c =
     let long : length c.args.asks ≡ 8 = search rules in (
       asking-goes-on c.args.context c.args.asks c.args.n (omega (arith, long, c.requires.1.0)) c.loop-j.j c.loop-j.slots
           c.loop-j.invariant.0 c.loop-j-test.true no_ask refl c.search.ensures
-          (omega (arith, c.loop-j.invariant.1.1, c.loop-j-test.true, c.requires.1.0)) c.in-Slot.is,
+          (omega (arith, c.loop-j.invariant.1.1, c.loop-j-test.true, c.requires.1.0)) c.in_ok-slots.was,
       (omega (arith, c.loop-j-test.true), simp length-set c.loop-j.invariant.1.1),
     )
 
@@ -660,61 +646,62 @@ search_all-returns t c =
     asking-ends c.args.context c.args.asks c.args.n (omega (arith, long, c.requires.1.0)) c.loop-j.j c.loop-j.slots c.loop-j.invariant.0
     c.loop-j-test.false c.loop-j.invariant.1.0
 
-pub stage-returns-in-Refused : goal.stage-returns-in-Refused
-stage-returns-in-Refused t c = stops c.requires.0 _ c.in-Refused.is
+pub stage-returns-then-is_err : goal.stage-returns-then-is_err
+stage-returns-then-is_err t c = stays c.requires.0 _ (sym c.is_err.ensures.value ∙ c.if-is_err.true)
 
-pub stage-search_all-asked-requires : goal.stage-search_all-asked-requires
-stage-search_all-asked-requires t c = (below (omega arith) c.decreases, (doing-going c.requires.0 c.in-Done.is, (c.requires.1.0, c.requires.1.1.0)))
+pub stage-search_all-requires : goal.stage-search_all-requires
+stage-search_all-requires t c = (below (omega arith) c.decreases, (doing-going c.requires.0 (end-done _ (sym c.is_err.ensures.value ∙ c.if-is_err.false)), (c.requires.1.0, c.requires.1.1.0)))
 
 pub stage-pair_all-requires : goal.stage-pair_all-requires
 stage-pair_all-requires t c =
-    let long : length c.search_all-asked.result.slots ≡ 8 = search rules in
+    let long : length c.in-Ok.slots ≡ 8 = search rules in
     let p = probs c.args.sat c.args.dissat in
     let q = policy_at c.args.pol.now c.args.r in
-    let again = again_in c.args.context q p in (
+    let again = again_in c.args.context q p in
+    let well = end-done _ (sym c.is_err.ensures.value ∙ c.if-is_err.false) in (
       below (omega arith) c.decreases,
       (
-        stage-doing c.args.context p again c.requires.0 c.in-Done.is c.args.asks c.args.n
-            (take c.args.k c.args.pairings) c.search_all-asked.ensures c.in-Done-stop.is,
+        stage-doing c.args.context p again c.requires.0 well c.args.asks c.args.n
+            (take c.args.k c.args.pairings) c.search_all.ensures c.in-Ok.is,
         (
           c.requires.1.1.1.0,
-          stage-paired c.args.context p again c.requires.0 c.in-Done.is c.args.asks c.args.n
-              (take c.args.k c.args.pairings) c.search_all-asked.ensures c.in-Done-stop.is (omega (arith, long, c.requires.1.0))
+          stage-paired c.args.context p again c.requires.0 well c.args.asks c.args.n
+              (take c.args.k c.args.pairings) c.search_all.ensures c.in-Ok.is (omega (arith, long, c.requires.1.0))
               c.requires.1.1.1.1 c.requires.1.0,
         ),
       ),
     )
 
-pub stage-returns-in-Refused-stop : goal.stage-returns-in-Refused-stop
-stage-returns-in-Refused-stop t c =
+pub stage-returns-in-Err : goal.stage-returns-in-Err
+stage-returns-in-Err t c =
     let p = probs c.args.sat c.args.dissat in
     let q = policy_at c.args.pol.now c.args.r in
     let again = again_in c.args.context q p in
-    stage-refused c.args.context p again c.requires.0 c.in-Done.is c.args.asks c.args.n
-    (take c.args.k c.args.pairings) c.search_all-asked.ensures c.in-Refused-stop.is
+    stage-refused c.args.context p again c.requires.0 (end-done _ (sym c.is_err.ensures.value ∙ c.if-is_err.false)) c.args.asks c.args.n
+    (take c.args.k c.args.pairings) c.search_all.ensures c.in-Err.is
 
-pub stage-returns-in-Done-stop : goal.stage-returns-in-Done-stop
-stage-returns-in-Done-stop t c =
-    let long : length c.search_all-asked.result.slots ≡ 8 = search rules in
+pub stage-returns-in-Ok : goal.stage-returns-in-Ok
+stage-returns-in-Ok t c =
+    let long : length c.in-Ok.slots ≡ 8 = search rules in
     let p = probs c.args.sat c.args.dissat in
     let q = policy_at c.args.pol.now c.args.r in
     let again = again_in c.args.context q p in
-    stage-done c.args.context p again c.requires.0 c.in-Done.is c.args.asks c.args.n
-    (take c.args.k c.args.pairings) c.search_all-asked.ensures c.in-Done-stop.is (omega (arith, long, c.requires.1.0))
+    stage-done c.args.context p again c.requires.0 (end-done _ (sym c.is_err.ensures.value ∙ c.if-is_err.false)) c.args.asks c.args.n
+    (take c.args.k c.args.pairings) c.search_all.ensures c.in-Ok.is (omega (arith, long, c.requires.1.0))
     c.requires.1.1.1.1 c.pair_all.ensures
 
 pub thresh_body-overflow_cast-ratio : goal.thresh_body-overflow_cast-ratio
 thresh_body-overflow_cast-ratio t c = omega (arith, (going-small c.requires.0 c.requires.1).few)
 
-pub thresh_body-all_bests-b-requires : goal.thresh_body-all_bests-b-requires
-thresh_body-all_bests-b-requires t c = (below (omega arith) c.decreases, (going_more c.requires.0, (c.requires.1.is_thresh, c.requires.1.is_n)))
+pub thresh_body-all_bests-requires : goal.thresh_body-all_bests-requires
+thresh_body-all_bests-requires t c = (below (omega arith) c.decreases, (going_more c.requires.0, (c.requires.1.is_thresh, c.requires.1.is_n)))
 
-pub thresh_body-returns-in-Refused : goal.thresh_body-returns-in-Refused
-thresh_body-returns-in-Refused t c = thresh-no c.args.context c.args.pol.now c.args.r c.args.sat c.args.dissat c.requires.1 c.child_dissat-child_dissat.ensures
-    c.all_bests-b.ensures c.in-Refused.is c.empty-none.ensures
+pub thresh_body-returns-in-Err : goal.thresh_body-returns-in-Err
+thresh_body-returns-in-Err t c = thresh-no c.args.context c.args.pol.now c.args.r c.args.sat c.args.dissat c.requires.1 c.child_dissat-child_dissat.ensures
+    c.all_bests.ensures c.in-Err.is c.empty.ensures
 
 pub thresh_body-most_gaining-gaining-requires : goal.thresh_body-most_gaining-gaining-requires
-thresh_body-most_gaining-gaining-requires t c = gaining-asks c.requires.0 c.requires.1 c.all_bests-b.ensures c.in-Done.is
+thresh_body-most_gaining-gaining-requires t c = gaining-asks c.requires.0 c.requires.1 c.all_bests.ensures c.in-Ok.is
 
 pub thresh_body-arrange-row-requires : goal.thresh_body-arrange-row-requires
 thresh_body-arrange-row-requires t c = ((going-small c.requires.0 c.requires.1).few, gaining-less (going-small c.requires.0 c.requires.1) c.most_gaining-gaining.ensures)
@@ -726,14 +713,14 @@ pub thresh_body-overflow_cast-n : goal.thresh_body-overflow_cast-n
 thresh_body-overflow_cast-n t c = omega (arith, (going-small c.requires.0 c.requires.1).few)
 
 pub thresh_body-thresh_made-x-requires : goal.thresh_body-thresh_made-x-requires
-thresh_body-thresh_made-x-requires t c = made_asks c.requires.0 c.requires.1 c.all_bests-b.ensures c.in-Done.is c.arrange-row.ensures
+thresh_body-thresh_made-x-requires t c = made_asks c.requires.0 c.requires.1 c.all_bests.ensures c.in-Ok.is c.arrange-row.ensures
 
 pub thresh_body-wrapped_if_made-one-requires : goal.thresh_body-wrapped_if_made-one-requires
 thresh_body-wrapped_if_made-one-requires t c = (
   below (omega arith) c.decreases,
   (
-    made-doing c.requires.0 c.requires.1 c.all_bests-b.ensures c.in-Done.is c.thresh_made-x.ensures
-        c.empty.ensures,
+    made-doing c.requires.0 c.requires.1 c.all_bests.ensures c.in-Ok.is c.thresh_made-x.ensures
+        c.empty-2.ensures,
     thresh-offers c.thresh_made-x.ensures,
     unsettled,
   ),
@@ -744,7 +731,7 @@ thresh_body-multi-two-requires t c = (
   below (omega arith) c.decreases,
   (
     doing-next
-        (made-doing c.requires.0 c.requires.1 c.all_bests-b.ensures c.in-Done.is c.thresh_made-x.ensures c.empty.ensures)
+        (made-doing c.requires.0 c.requires.1 c.all_bests.ensures c.in-Ok.is c.thresh_made-x.ensures c.empty-2.ensures)
         _ c.wrapped_if_made-one.ensures,
     c.requires.1,
   ),
@@ -756,7 +743,7 @@ thresh_body-folded-requires t c = (
   (
     doing-next
         (doing-next
-        (made-doing c.requires.0 c.requires.1 c.all_bests-b.ensures c.in-Done.is c.thresh_made-x.ensures c.empty.ensures)
+        (made-doing c.requires.0 c.requires.1 c.all_bests.ensures c.in-Ok.is c.thresh_made-x.ensures c.empty-2.ensures)
         _ c.wrapped_if_made-one.ensures) _ c.multi-two.ensures,
     c.requires.1,
   ),
@@ -764,8 +751,8 @@ thresh_body-folded-requires t c = (
 
 pub thresh_body-returns : goal.thresh_body-returns
 thresh_body-returns t c = body-thresh c.args.context c.args.pol.now c.args.r c.args.sat c.args.dissat c.requires.1 refl c.child_dissat-child_dissat.ensures
-    c.all_bests-b.ensures c.in-Done.is c.most_gaining-gaining.ensures c.arrange-row.ensures c.thresh_made-x.ensures
-    c.empty.ensures c.wrapped_if_made-one.ensures c.multi-two.ensures c.folded.ensures
+    c.all_bests.ensures c.in-Ok.is c.most_gaining-gaining.ensures c.arrange-row.ensures c.thresh_made-x.ensures
+    c.empty-2.ensures c.wrapped_if_made-one.ensures c.multi-two.ensures c.folded.ensures
 
 pub wrapped-insert_closure-closed-requires : goal.wrapped-insert_closure-closed-requires
 wrapped-insert_closure-closed-requires t c = (c.requires.0.ready.nodes, (c.requires.0.table, c.requires.1))
@@ -773,50 +760,43 @@ wrapped-insert_closure-closed-requires t c = (c.requires.0.ready.nodes, (c.requi
 pub wrapped-casts_of-requires : goal.wrapped-casts_of-requires
 wrapped-casts_of-requires t c = (
   below (omega arith) c.decreases,
-  (
-    wrapped-doing c.args.context c.args.sat c.requires.0 c.in-Done.is c.insert_closure-closed.ensures,
-    flag-some c.in-Some.is,
-  ),
+  (wrapped-doing c.args.context c.args.sat c.requires.0 (end-done _ (sym c.is_err.ensures.value ∙ c.if-is_err.false)) c.insert_closure-closed.ensures, flag-some c.in-Some.is),
 )
 
 pub wrapped-returns-then-settled : goal.wrapped-returns-then-settled
-wrapped-returns-then-settled t c = wrapped-settled c.args.context c.args.sat c.requires.0 c.in-Done.is c.insert_closure-closed.ensures c.in-Some.is
+wrapped-returns-then-settled t c = wrapped-settled c.args.context c.args.sat c.requires.0 (end-done _ (sym c.is_err.ensures.value ∙ c.if-is_err.false)) c.insert_closure-closed.ensures c.in-Some.is
     c.if-settled.true c.requires.2
 
-pub wrapped-returns-in-Refused : goal.wrapped-returns-in-Refused
-wrapped-returns-in-Refused t c = stops c.requires.0 _ c.in-Refused.is
-
 pub wrapped-returns-in-None : goal.wrapped-returns-in-None
-wrapped-returns-in-None t c = wrapped-plain c.args.context c.args.sat c.requires.0 c.in-Done.is c.insert_closure-closed.ensures
-    c.in-None.is
+wrapped-returns-in-None t c = wrapped-plain c.args.context c.args.sat c.requires.0 (end-done _ (sym c.is_err.ensures.value ∙ c.if-is_err.false)) c.insert_closure-closed.ensures c.in-None.is
 
 pub wrapped-returns-else-settled : goal.wrapped-returns-else-settled
-wrapped-returns-else-settled t c = wrapped-casts c.args.context c.args.sat c.requires.0 c.in-Done.is c.insert_closure-closed.ensures c.in-Some.is
+wrapped-returns-else-settled t c = wrapped-casts c.args.context c.args.sat c.requires.0 (end-done _ (sym c.is_err.ensures.value ∙ c.if-is_err.false)) c.insert_closure-closed.ensures c.in-Some.is
     c.casts_of.ensures
 
+pub wrapped-returns-then-is_err : goal.wrapped-returns-then-is_err
+wrapped-returns-then-is_err t c = stays c.requires.0 _ (sym c.is_err.ensures.value ∙ c.if-is_err.true)
+
 pub wrapped_if_made-wrapped-requires : goal.wrapped_if_made-wrapped-requires
-wrapped_if_made-wrapped-requires t c = (below (omega arith) c.decreases, (c.requires.0, c.requires.1.offers _ c.in-Candidate.is, c.requires.2))
+wrapped_if_made-wrapped-requires t c = (below (omega arith) c.decreases, (c.requires.0, c.requires.1.offers _ c.in-Ok.is, c.requires.2))
 
-pub wrapped_if_made-returns-in-Candidate : goal.wrapped_if_made-returns-in-Candidate
-wrapped_if_made-returns-in-Candidate t c =
+pub wrapped_if_made-returns-in-Ok : goal.wrapped_if_made-returns-in-Ok
+wrapped_if_made-returns-in-Ok t c =
     let p = probs c.args.sat c.args.dissat in
     let q = policy_at c.args.pol.now c.args.r in
     let again = again_in c.args.context q p in
-    made-wrapped c.args.context p again c.requires.0 c.in-Candidate.is c.wrapped.ensures
+    made-wrapped c.args.context p again c.requires.0 c.in-Ok.is c.wrapped.ensures
 
-pub wrapped_if_made-returns-in-PassedOver : goal.wrapped_if_made-returns-in-PassedOver
-wrapped_if_made-returns-in-PassedOver t c =
+pub wrapped_if_made-returns-in-Err-PassedOver : goal.wrapped_if_made-returns-in-Err-PassedOver
+wrapped_if_made-returns-in-Err-PassedOver t c =
     let p = probs c.args.sat c.args.dissat in
     let q = policy_at c.args.pol.now c.args.r in
     let again = again_in c.args.context q p in
-    passed_over c.args.context p again c.requires.0 c.in-PassedOver.is
+    passed_over c.args.context p again c.requires.0 (rw c.in-Err-PassedOver.is at c.in-Err-PassedOver.field-0-is) c.in-Err-PassedOver.is
 
-pub wrapped_if_made-returns-in-Refused : goal.wrapped_if_made-returns-in-Refused
-wrapped_if_made-returns-in-Refused t c = stops c.requires.0 _ c.in-Refused.is
-
-pub wrapped_if_made-returns-in-Done : goal.wrapped_if_made-returns-in-Done
-wrapped_if_made-returns-in-Done t c =
+pub wrapped_if_made-returns-in-Err-Missing : goal.wrapped_if_made-returns-in-Err-Missing
+wrapped_if_made-returns-in-Err-Missing t c =
     let p = probs c.args.sat c.args.dissat in
     let q = policy_at c.args.pol.now c.args.r in
     let again = again_in c.args.context q p in
-    missing-refused c.args.context p again c.requires.0 c.in-Missing.is c.in-Done.is
+    rw c.«and».ensures (missing-refused c.args.context p again c.requires.0 (rw c.in-Err-Missing.is at c.in-Err-Missing.field-0-is) c.in-Err-Missing.is)

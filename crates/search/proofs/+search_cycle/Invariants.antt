@@ -1,7 +1,8 @@
 -- What falls from call to call is `rank`, first the policy's load and then the function's place, and what each loop keeps. Assumes nothing.
+use Rattle.std.specs.Prelude.{Ok}
 use mathlib.Core.Path.{◌≡◌}
 use lib.ListN.{length, take}
-use Prim.Native.Nat.{◌-◌, ◌≤◌}
+use Prim.Native.Nat.{◌≤◌}
 use Rattle.definition.specs.Tables.{probs}
 use Rattle.definition_laws.specs.Bodies.{again_in}
 use Rattle.policies.specs.Array.{policy_at}
@@ -77,25 +78,16 @@ invariant-all_bests-loop-j l =
     BestsSoFar l.context (probs l.child_sat l.child_dissat) l.pol (policy_at l.pol l.r) l.j l.es l.ws l.initial.work l.work
     × ((l.j ≤ l.n) × ((length l.es ≡ 16) × (length l.ws ≡ 16)))
 
-abbrev pub decreases-all_bests-loop-j : goal.decreases-all_bests-loop-j
-decreases-all_bests-loop-j l = l.n - l.j
-
 abbrev pub invariant-casts_of-loop-number : goal.invariant-casts_of-loop-number
 invariant-casts_of-loop-number l =
     CastsOn l.context (probs l.sat l.dissat) (definition.search l.context (policy_at l.pol l.r) (definition.without (probs l.sat l.dissat)))
-    l.pol l.initial.table l.initial.work l.number l.table l.work
-    × (l.number ≤ 10)
-
-abbrev pub decreases-casts_of-loop-number : goal.decreases-casts_of-loop-number
-decreases-casts_of-loop-number l = 10 - l.number
+    l.pol l.initial.done.table l.initial.work l.number l.done.table l.work
+    × (l.done.end ≡ Ok tt)
 
 abbrev pub invariant-pair-loop-i : goal.invariant-pair-loop-i
 invariant-pair-loop-i l =
     PairOn l.context (probs l.sat l.dissat) (again_in l.context (policy_at l.pol l.r) (probs l.sat l.dissat)) l.pol l.r l.dissat l.a l.slots l.initial.done l.initial.work l.i l.done l.work
     × (l.i ≤ l.many) × SettledIf l.settled l.context l.pol l.r l.sat l.dissat l.done l.work
-
-abbrev pub decreases-pair-loop-i : goal.decreases-pair-loop-i
-decreases-pair-loop-i l = l.many - l.i
 
 abbrev pub invariant-pair_all-loop-i : goal.invariant-pair_all-loop-i
 invariant-pair_all-loop-i l =
@@ -104,12 +96,6 @@ invariant-pair_all-loop-i l =
     × ((l.i ≤ l.k) × ((length l.pairings ≡ 10) × (length l.slots ≡ 8)))
     × SettledIf l.settled l.context l.pol l.r l.sat l.dissat l.done l.work
 
-abbrev pub decreases-pair_all-loop-i : goal.decreases-pair_all-loop-i
-decreases-pair_all-loop-i l = l.k - l.i
-
 abbrev pub invariant-search_all-loop-j : goal.invariant-search_all-loop-j
 invariant-search_all-loop-j l =
     Asking l.context l.pol l.asks l.n l.initial.work l.j l.slots l.work × ((l.j ≤ l.n) × (length l.slots ≡ 8))
-
-abbrev pub decreases-search_all-loop-j : goal.decreases-search_all-loop-j
-decreases-search_all-loop-j l = l.n - l.j

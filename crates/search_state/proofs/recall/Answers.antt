@@ -7,8 +7,5 @@ pub overflow_cast-class : goal.overflow_cast-class
 overflow_cast-class c = let small = class-small c.requires.0 c.args.r c.requires.1.0 in
     omega (arith, small.0, small.1, c.class_of-class.ensures)
 
-pub find-requires : goal.find-requires
-find-requires c = c.requires.1.1.tables
-
 pub returns : goal.returns
 returns c = recalled c.requires.0 c.requires.1.1 c.args.r c.requires.1.0 c.args.sat c.args.dissat c.class_of-class.ensures c.find.ensures

@@ -7,26 +7,14 @@ use Rattle.cache.proofs.Tables.{entries-few}
 use Rattle.search_state.proofs.Copying.{copied_next, copied_all}
 use Rattle.search_state.proofs.table_of.Goals as goal
 
-pub length_of-len-requires : goal.length_of-len-requires
-length_of-len-requires c = c.requires
-
 pub loop-j-init : goal.loop-j-init
 loop-j-init c = (omega arith, (refl, refl))
 
 pub entry-requires : goal.entry-requires
 entry-requires c = (c.requires.0, (c.requires.1, omega (arith, c.length_of-len.ensures)))
 
-pub offset_bounds-entries-j : goal.offset_bounds-entries-j
-offset_bounds-entries-j c = omega (arith, c.length_of-len.ensures, entries-few c.args.work.now c.args.s)
-
 pub bounds-entries-j : goal.bounds-entries-j
 bounds-entries-j c = omega (arith, c.length_of-len.ensures, entries-few c.args.work.now c.args.s)
-
-pub overflow_add-j : goal.overflow_add-j
-overflow_add-j c = omega (arith, c.length_of-len.ensures, entries-few c.args.work.now c.args.s)
-
-pub loop-j-smaller : goal.loop-j-smaller
-loop-j-smaller c = omega arith
 
 pub loop-j-preserved : goal.loop-j-preserved
 loop-j-preserved c = let few = entries-few c.args.work.now c.args.s in (

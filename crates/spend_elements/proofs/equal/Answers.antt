@@ -1,14 +1,7 @@
-use mathlib.Core.Bool.{Bool, not, cond}
-use mathlib.Core.Path.{ap}
-use Rattle.spend_elements.proofs.equal.Goals as goal
 -- `spend_elements::equal` meets its contract. Assumes nothing.
-use native.Mathlib.Omega.{arith}
-use mathlib.Core.Path.{◌≡◌, sym, ◌∙◌}
+use mathlib.Core.Path.{sym, ◌∙◌}
 use Rattle.spend_elements.proofs.Writing.{equal-sizes, equal-zeros, equal-signs}
-use Rattle.spend_elements.proofs.equal.Statement.{statement}
-use Rattle.spend_elements.proofs.equal.Tie as tie
-use Rattle.spend_elements.proofs.equal.Reads as reads
-use Rattle.spend_elements.proofs.equal.Lts as lts
+use Rattle.spend_elements.proofs.equal.Goals as goal
 
 pub returns-then-m-n : goal.returns-then-m-n
 returns-then-m-n c = sym (equal-sizes c.args.a.negative c.args.b.negative c.args.a.size c.args.b.size c.if-m-n.true)
@@ -16,10 +9,5 @@ returns-then-m-n c = sym (equal-sizes c.args.a.negative c.args.b.negative c.args
 pub returns-then-m-eq0 : goal.returns-then-m-eq0
 returns-then-m-eq0 c = sym (equal-zeros c.args.a.negative c.args.b.negative c.args.a.size c.args.b.size c.if-m-eq0.true (sym c.if-m-n.false ∙ c.if-m-eq0.true))
 
-pub returns-then-x : goal.returns-then-x
-returns-then-x c = sym (equal-signs c.args.a.negative c.args.b.negative c.args.a.size c.args.b.size c.if-m-n.false c.if-m-eq0.false
-    ∙ ap (λ (b : Bool). cond b c.args.b.negative (not c.args.b.negative)) c.if-x.true)
-
 pub returns : goal.returns
-returns c = sym (equal-signs c.args.a.negative c.args.b.negative c.args.a.size c.args.b.size c.if-m-n.false c.if-m-eq0.false
-    ∙ ap (λ (b : Bool). cond b c.args.b.negative (not c.args.b.negative)) c.if-x.false)
+returns c = sym (equal-signs c.args.a.negative c.args.b.negative c.args.a.size c.args.b.size c.if-m-n.false c.if-m-eq0.false)

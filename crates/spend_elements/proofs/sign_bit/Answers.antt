@@ -4,17 +4,17 @@ use mathlib.Core.Path.{◌≡◌, sym, ap}
 use Rattle.spend_elements.specs.Signed.{sign_bit}
 use Rattle.spend_elements.proofs.sign_bit.Goals as goal
 
-pub returns-then-n-lt1 : goal.returns-then-n-lt1
-returns-then-n-lt1 c = let e : c.args.n ≡ 0 = omega arith in sym (ap sign_bit e)
+pub returns-in-0 : goal.returns-in-0
+returns-in-0 c = rw c.in-0.is
 
-pub returns-then-n-lt2 : goal.returns-then-n-lt2
-returns-then-n-lt2 c = let e : c.args.n ≡ 1 = omega arith in sym (ap sign_bit e)
+pub returns-in-1 : goal.returns-in-1
+returns-in-1 c = rw c.in-1.is
 
-pub returns-then-n-lt3 : goal.returns-then-n-lt3
-returns-then-n-lt3 c = let e : c.args.n ≡ 2 = omega arith in sym (ap sign_bit e)
+pub returns-in-2 : goal.returns-in-2
+returns-in-2 c = rw c.in-2.is
 
-pub returns-then-n-lt4 : goal.returns-then-n-lt4
-returns-then-n-lt4 c = let e : c.args.n ≡ 3 = omega arith in sym (ap sign_bit e)
+pub returns-in-3 : goal.returns-in-3
+returns-in-3 c = rw c.in-3.is
 
-pub returns : goal.returns
-returns c = let e : c.args.n ≡ 4 = omega arith in sym (ap sign_bit e)
+pub returns-in_default : goal.returns-in_default
+returns-in_default c = let e : c.args.n ≡ 4 = omega arith in sym (ap sign_bit e)

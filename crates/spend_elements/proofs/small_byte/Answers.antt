@@ -10,22 +10,18 @@ use Rattle.spend_elements.proofs.small_byte.Goals as goal
 pub returns-then-n-j : goal.returns-then-n-j
 returns-then-n-j c = sym (digits-past c.args.n c.args.v c.args.j c.if-n-j.true)
 
-pub returns-then-j-lt1 : goal.returns-then-j-lt1
-returns-then-j-lt1 c = let e : c.args.j ≡ 0 = omega arith in
-    sym (ap (λ (j : ℕ). get_or (bytes_of c.args.n c.args.v) j 0) e ∙ digit-0 c.args.n c.args.v (omega arith))
+pub returns-in-0 : goal.returns-in-0
+returns-in-0 c = rw c.in-0.is (sym (digit-0 c.args.n c.args.v (omega arith)))
 
-pub returns-then-j-lt2 : goal.returns-then-j-lt2
-returns-then-j-lt2 c = let e : c.args.j ≡ 1 = omega arith in
-    sym (ap (λ (j : ℕ). get_or (bytes_of c.args.n c.args.v) j 0) e ∙ digit-1 c.args.n c.args.v (omega arith))
+pub returns-in-1 : goal.returns-in-1
+returns-in-1 c = rw c.in-1.is (sym (digit-1 c.args.n c.args.v (omega arith)))
 
-pub returns-then-j-lt3 : goal.returns-then-j-lt3
-returns-then-j-lt3 c = let e : c.args.j ≡ 2 = omega arith in
-    sym (ap (λ (j : ℕ). get_or (bytes_of c.args.n c.args.v) j 0) e ∙ digit-2 c.args.n c.args.v (omega arith))
+pub returns-in-2 : goal.returns-in-2
+returns-in-2 c = rw c.in-2.is (sym (digit-2 c.args.n c.args.v (omega arith)))
 
-pub returns-then-j-lt4 : goal.returns-then-j-lt4
-returns-then-j-lt4 c = let e : c.args.j ≡ 3 = omega arith in
-    sym (ap (λ (j : ℕ). get_or (bytes_of c.args.n c.args.v) j 0) e ∙ digit-3 c.args.n c.args.v (omega arith))
+pub returns-in-3 : goal.returns-in-3
+returns-in-3 c = rw c.in-3.is (sym (digit-3 c.args.n c.args.v (omega arith)))
 
-pub returns : goal.returns
-returns c = let e : c.args.j ≡ 4 = omega arith in
+pub returns-in_default : goal.returns-in_default
+returns-in_default c = let e : c.args.j ≡ 4 = omega arith in
     sym (ap (λ (j : ℕ). get_or (bytes_of c.args.n c.args.v) j 0) e ∙ digit-4 c.args.n c.args.v (omega arith))

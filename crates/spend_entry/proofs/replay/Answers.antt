@@ -6,22 +6,22 @@ use Rattle.spend_entry.proofs.replay.Goals as goal
 
 pub returns-in_default : goal.returns-in_default
 returns-in_default c = record {
-  gives = broken-log c.args.log.now c.args.out.now c.args.work.now (head-told-broken c.args.log.now c.head_of.ensures c.in_default.is) c.refusal.ensures;
+  gives = broken-log c.args.log.now c.args.out.now c.args.work.now (head-told-broken c.args.log.now c.head_of.ensures c.in_default.is);
   work_len_unchanged = refl;
 }
 
 pub count_entries-requires : goal.count_entries-requires
-count_entries-requires c = (head-told c.args.log.now c.head_of.ensures c.in-Whole.is).within
+count_entries-requires c = (head-told c.args.log.now c.head_of.ensures c.in-Some.is).within
 
 pub returns-in_default-count_entries : goal.returns-in_default-count_entries
-returns-in_default-count_entries c = let lies = head-told c.args.log.now c.head_of.ensures c.in-Whole.is in
+returns-in_default-count_entries c = let lies = head-told c.args.log.now c.head_of.ensures c.in-Some.is in
     record {
-      gives = broken-log c.args.log.now c.args.out.now c.args.work.now (entries-told-broken c.args.log.now _ lies c.count_entries.ensures c.in_default-count_entries.is) c.refusal-in_default-count_entries.ensures;
+      gives = broken-log c.args.log.now c.args.out.now c.args.work.now (entries-told-broken c.args.log.now _ lies c.count_entries.ensures c.in_default-count_entries.is);
       work_len_unchanged = refl;
     }
 
 pub replay_whole-requires : goal.replay_whole-requires
-replay_whole-requires c = whole c.args.log.now _ (head-told c.args.log.now c.head_of.ensures c.in-Whole.is) c.count_entries.ensures c.in-Entries.is
+replay_whole-requires c = whole c.args.log.now _ (head-told c.args.log.now c.head_of.ensures c.in-Some.is) c.count_entries.ensures c.in-Some-count_entries.is
 
 pub returns : goal.returns
 returns c = c.replay_whole.ensures

@@ -45,13 +45,13 @@ returns-then-count-out c = let enough : max_records ≤ length (starts_in c.args
 pub returns-then-has_entries : goal.returns-then-has_entries
 returns-then-has_entries c = let enough : max_records ≤ length (starts_in c.args.work.now) = omega (arith, starts-long c.args.work.now c.requires.3) in record {
   gives = (λ f rows. no_room c.args.context c.args.log.now c.args.head rows (c.scan-n.ensures.counts f rows) c.has_entries.ensures
-      (entries_from c.args.log.now c.args.head.entries) c.args.out.now c.if-has_entries.true c.requires.0.counts c.if-count-out.false c.refusal.ensures);
+      (entries_from c.args.log.now c.args.head.entries) c.args.out.now c.if-has_entries.true c.requires.0.counts c.if-count-out.false);
   work_len_unchanged = starts-same c.args.work.now c.requires.3 c.scan-n.new.work (kept-length c.scan-n.ensures c.requires.2.rows enough);
 }
 
 pub returns : goal.returns
 returns c = let enough : max_records ≤ length (starts_in c.args.work.now) = omega (arith, starts-long c.args.work.now c.requires.3) in record {
   gives = (λ f rows. no-entry c.args.context c.args.log.now c.args.head rows (c.scan-n.ensures.counts f rows) c.has_entries.ensures
-      (entries_from c.args.log.now c.args.head.entries) c.args.out.now c.if-has_entries.false c.refusal-2.ensures);
+      (entries_from c.args.log.now c.args.head.entries) c.args.out.now c.if-has_entries.false);
   work_len_unchanged = starts-same c.args.work.now c.requires.3 c.scan-n.new.work (kept-length c.scan-n.ensures c.requires.2.rows enough);
 }

@@ -11,6 +11,6 @@ returns-then-work-eq-WORDS c = c.replay_checked.ensures
 
 pub returns : goal.returns
 returns c = record {
-  gives = wrong-work c.args.log.now c.args.head c.args.count (c.requires) c.args.out.now c.args.work.now c.if-work-eq-WORDS.false c.wrong_length.ensures c.refusal.ensures;
+  gives = wrong-work c.args.log.now c.args.head c.args.count (c.requires) c.args.out.now c.args.work.now c.if-work-eq-WORDS.false c.wrong_length.ensures;
   work_len_unchanged = refl;
 }

@@ -13,12 +13,6 @@ element_at-part-requires c = elements-in c.loop-i.invariant.0
 pub put-requires : goal.put-requires
 put-requires c = (omega (arith, c.loop-i-test.true, c.requires.1), omega (arith, c.loop-i.invariant.1.same, c.requires.2))
 
-pub overflow_add-i : goal.overflow_add-i
-overflow_add-i c = omega arith
-
-pub loop-i-smaller : goal.loop-i-smaller
-loop-i-smaller c = omega arith
-
 pub loop-i-preserved : goal.loop-i-preserved
 loop-i-preserved c = (
   elements-more c.loop-i.invariant.0 c.loop-i-test.true c.element_at-part.ensures,

@@ -19,12 +19,6 @@ returns-then-not-same c = same_not c.args.log.now c.args.main.now c.args.at c.ar
     refl c.get-mine.ensures
     (sym c.same.ensures ∙ not-true _ c.if-not-same.true-raw) c.loop-i.invariant.1
 
-pub overflow_add-i : goal.overflow_add-i
-overflow_add-i c = omega arith
-
-pub loop-i-smaller : goal.loop-i-smaller
-loop-i-smaller c = omega arith
-
 pub loop-i-preserved : goal.loop-i-preserved
 loop-i-preserved c = (
   elements-more c.loop-i.invariant.0 c.loop-i-test.true c.element_at-part.ensures,

@@ -12,12 +12,6 @@ outcome_at-o-requires c = outcomes-in c.loop-i.invariant.0 c.loop-i-test.true
 pub returns-then-digest-gt-MAX_BYTES : goal.returns-then-digest-gt-MAX_BYTES
 returns-then-digest-gt-MAX_BYTES c = digests-not c.loop-i.invariant.0 c.loop-i-test.true c.outcome_at-o.ensures c.if-digest-gt-MAX_BYTES.true c.loop-i.invariant.1
 
-pub overflow_add-i : goal.overflow_add-i
-overflow_add-i c = omega arith
-
-pub loop-i-smaller : goal.loop-i-smaller
-loop-i-smaller c = omega arith
-
 pub loop-i-preserved : goal.loop-i-preserved
 loop-i-preserved c = (outcomes-more c.loop-i.invariant.0 c.loop-i-test.true c.outcome_at-o.ensures, digests-more c.loop-i.invariant.0 c.loop-i-test.true c.outcome_at-o.ensures c.if-digest-gt-MAX_BYTES.false c.loop-i.invariant.1)
 

@@ -5,6 +5,3 @@ use Rattle.spend_judge.proofs.small_digests.Given as goal
 
 abbrev pub invariant-loop-i : goal.invariant-loop-i
 invariant-loop-i l = Outcomes l.log l.at l.n l.to l.i × DigestsToCome l.log l.at l.n l.to l.i
-
-abbrev pub decreases-loop-i : goal.decreases-loop-i
-decreases-loop-i l = l.n - l.i

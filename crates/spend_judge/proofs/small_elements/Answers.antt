@@ -12,12 +12,6 @@ element_at-part-requires c = elements-in c.loop-i.invariant.0
 pub returns-then-part-gt-MAX_BYTES : goal.returns-then-part-gt-MAX_BYTES
 returns-then-part-gt-MAX_BYTES c = small-not c.loop-i.invariant.0 c.loop-i-test.true c.element_at-part.ensures c.if-part-gt-MAX_BYTES.true c.loop-i.invariant.1
 
-pub overflow_add-i : goal.overflow_add-i
-overflow_add-i c = omega arith
-
-pub loop-i-smaller : goal.loop-i-smaller
-loop-i-smaller c = omega arith
-
 pub loop-i-preserved : goal.loop-i-preserved
 loop-i-preserved c = (elements-more c.loop-i.invariant.0 c.loop-i-test.true c.element_at-part.ensures, small-more c.loop-i.invariant.0 c.loop-i-test.true c.element_at-part.ensures c.if-part-gt-MAX_BYTES.false c.loop-i.invariant.1)
 

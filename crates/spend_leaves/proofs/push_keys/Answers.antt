@@ -10,7 +10,6 @@ loop-j-init c = let its-tables = tables_in c.args.log.now c.args.head in (
   all-coming (key-first c.args.context its-tables c.args.bytes.now c.args.count) c.requires.0,
   all_there c.args.context its-tables c.args.bytes.now
       c.args.count 0 c.requires.1,
-  omega arith,
 )
 
 pub push_key-r-requires : goal.push_key-r-requires
@@ -20,18 +19,11 @@ push_key-r-requires c = let its-tables = tables_in c.args.log.now c.args.head in
       c.loop-j.invariant.1,
 )
 
-pub overflow_add-j : goal.overflow_add-j
-overflow_add-j c = omega arith
-
-pub loop-j-smaller : goal.loop-j-smaller
-loop-j-smaller c = omega arith
-
 pub loop-j-preserved : goal.loop-j-preserved
 loop-j-preserved c = let its-tables = tables_in c.args.log.now c.args.head in (
   more-coming c.loop-j.invariant.0 (key-next c.args.context its-tables c.args.bytes.now c.args.count c.loop-j.j c.key_at-i.ensures c.loop-j-test.true)
       c.push_key-r.ensures,
   others-there c.args.context its-tables c.args.bytes.now c.args.count c.loop-j.j c.loop-j-test.true c.loop-j.invariant.1,
-  omega arith,
 )
 
 pub shape_of-main : goal.shape_of-main

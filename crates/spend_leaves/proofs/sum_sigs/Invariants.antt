@@ -1,7 +1,7 @@
 -- `spend_leaves::sum_sigs` meets its contract: the keys still to come are run after those before them. Assumes nothing.
 use mathlib.Core.Bool.{true}
 use mathlib.Core.Path.{◌≡◌}
-use Prim.Native.Nat.{◌-◌, ◌≤◌}
+use lib.Dec.{eqb}
 use Rattle.records.specs.Payloads.{first_keys, keys_from}
 use Rattle.script_bytes.specs.ScriptOf.{has_keys}
 use Rattle.spend_machine.specs.Playing.{sigs_summed}
@@ -11,9 +11,5 @@ use Rattle.spend_leaves.proofs.sum_sigs.Given as goal
 
 abbrev pub invariant-loop-j : goal.invariant-loop-j
 invariant-loop-j l = Coming (sigs_summed l.context (tables_in l.log l.head) (first_keys l.bytes l.count))
-    (sigs_from l.context (tables_in l.log l.head) l.bytes l.count l.first (keys_from l.bytes l.count l.j)) l.log l.initial.main l.main l.initial.r l.r
+    (sigs_from l.context (tables_in l.log l.head) l.bytes l.count (eqb l.j 0) (keys_from l.bytes l.count l.j)) l.log l.initial.main l.main l.initial.r l.r
     × (has_keys l.context (tables_in l.log l.head) (keys_from l.bytes l.count l.j) ≡ true)
-    × (l.j ≤ l.count)
-
-abbrev pub decreases-loop-j : goal.decreases-loop-j
-decreases-loop-j l = l.count - l.j

@@ -6,16 +6,16 @@ use native.Mathlib.Omega.{arith}
 use Rattle.spend_lines.proofs.put_lines.Goals as goal
 
 pub loop-i-init : goal.loop-i-init
-loop-i-init c = (all-coming _ (line_first c.args.reports.now c.args.from c.args.count) (omega arith) (omega arith), omega arith)
+loop-i-init c = all-coming _ (line_first c.args.reports.now c.args.from c.args.count) (omega arith) (omega arith)
 
 pub loop-i-preserved : goal.loop-i-preserved
 loop-i-preserved c = let next = line-next c.args.reports.now c.args.from c.args.count c.loop-i.i _ _ c.loop-i-test.true c.number_in-number.ensures c.verdict_in-verdict.ensures in
-    (more-coming next c.loop-i.invariant.0 c.put_line-at.ensures, omega arith)
+    more-coming next c.loop-i.invariant c.put_line-at.ensures
 
 pub shape_of-out : goal.shape_of-out
-shape_of-out c = c.loop-i.invariant.0.long
+shape_of-out c = c.loop-i.invariant.long
 
 pub returns : goal.returns
 returns c = let none = line-none c.args.reports.now (c.args.from + c.loop-i.i) c.args.count c.loop-i.i c.loop-i-test.false in
     let short = lines-short c.args.reports.now c.args.from c.args.count in
-    shown (none-coming none c.loop-i.invariant.0) (omega (arith, short, c.requires.count_in_bounds_2))
+    shown (none-coming none c.loop-i.invariant) (omega (arith, short, c.requires.count_in_bounds_2))

@@ -13,19 +13,20 @@ loop-to-init c = (c.requires, omega arith, refl)
 pub entry_end-requires : goal.entry_end-requires
 entry_end-requires c = c.loop-to.invariant.0
 
-pub returns-in_default : goal.returns-in_default
-returns-in_default c = sym (counting-broken _ _ _ c.loop-to-test.true (told-broken entry _ _ c.entry_end.ensures c.in_default.is)) ∙ c.loop-to.invariant.2 ∙ counting-none _ _
+pub returns-in_err-to : goal.returns-in_err-to
+returns-in_err-to c = rw c.from_residual.ensures
+    (sym (counting-broken _ _ _ c.loop-to-test.true (told-broken entry _ _ c.in_err-to.ensures refl)) ∙ c.loop-to.invariant.2 ∙ counting-none _ _)
 
 pub overflow_add-count : goal.overflow_add-count
 overflow_add-count c = omega arith
 
 pub loop-to-smaller : goal.loop-to-smaller
-loop-to-smaller c = let p = told entry _ _ takes-entry c.loop-to.invariant.0 c.entry_end.ensures c.in-At.is in
+loop-to-smaller c = let p = told entry _ _ takes-entry c.loop-to.invariant.0 c.in_ok-to.ensures refl in
     let l = p.onwards in
     omega arith
 
 pub loop-to-preserved : goal.loop-to-preserved
-loop-to-preserved c = let p = told entry _ _ takes-entry c.loop-to.invariant.0 c.entry_end.ensures c.in-At.is in
+loop-to-preserved c = let p = told entry _ _ takes-entry c.loop-to.invariant.0 c.in_ok-to.ensures refl in
     let l = p.onwards in
     (p.within, omega arith, sym (counting-next _ _ _ p) ∙ c.loop-to.invariant.2)
 

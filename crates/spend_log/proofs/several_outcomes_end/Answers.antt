@@ -1,5 +1,5 @@
 -- `spend_log::several_outcomes_end` meets its contract: what is still to come ends where all of it does. Assumes nothing.
-use mathlib.Core.Path.{sym, ◌∙◌}
+use mathlib.Core.Path.{refl, sym, ◌∙◌}
 use native.Mathlib.Omega.{arith}
 use Rattle.spend_log.specs.Logs.{outcome}
 use Rattle.spend_log.proofs.Passing.{told, told-broken, several-next, several-broken, several-all, several-done}
@@ -12,17 +12,12 @@ loop-i-init c = (c.requires, omega arith, several-all outcome _ _ _)
 pub outcome_end-requires : goal.outcome_end-requires
 outcome_end-requires c = c.loop-i.invariant.0
 
-pub returns-in_default : goal.returns-in_default
-returns-in_default c = sym (several-broken outcome _ _ _ _ c.loop-i-test.true (told-broken outcome _ _ c.outcome_end.ensures c.in_default.is)) ∙ c.loop-i.invariant.2
-
-pub overflow_add-i : goal.overflow_add-i
-overflow_add-i c = omega arith
-
-pub loop-i-smaller : goal.loop-i-smaller
-loop-i-smaller c = omega arith
+pub returns-in_err-to : goal.returns-in_err-to
+returns-in_err-to c = rw c.from_residual.ensures
+    (sym (several-broken outcome _ _ _ _ c.loop-i-test.true (told-broken outcome _ _ c.in_err-to.ensures refl)) ∙ c.loop-i.invariant.2)
 
 pub loop-i-preserved : goal.loop-i-preserved
-loop-i-preserved c = let p = told outcome _ _ takes-outcome c.loop-i.invariant.0 c.outcome_end.ensures c.in-At.is in
+loop-i-preserved c = let p = told outcome _ _ takes-outcome c.loop-i.invariant.0 c.in_ok-to.ensures refl in
     (p.within, omega arith, sym (several-next outcome _ _ _ _ c.loop-i-test.true p) ∙ c.loop-i.invariant.2)
 
 pub returns : goal.returns

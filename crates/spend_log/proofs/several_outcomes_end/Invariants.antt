@@ -9,6 +9,3 @@ use Rattle.spend_log.proofs.several_outcomes_end.Given as goal
 
 abbrev pub invariant-loop-i : goal.invariant-loop-i
 invariant-loop-i l = (l.to ≤ length l.log) × (l.i ≤ l.n) × (place_of (several outcome (l.n - l.i)) l.log l.to ≡ place_of (several outcome l.n) l.log l.at)
-
-abbrev pub decreases-loop-i : goal.decreases-loop-i
-decreases-loop-i l = l.n - l.i

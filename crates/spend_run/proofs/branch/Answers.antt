@@ -5,5 +5,5 @@ use Rattle.spend_run.proofs.branch.Goals as goal
 pub takes-taken-requires : goal.takes-taken-requires
 takes-taken-requires c = c.requires
 
-pub open-a-requires : goal.open-a-requires
-open-a-requires c = c.requires
+pub open-m-requires : goal.open-m-requires
+open-m-requires c = c.requires

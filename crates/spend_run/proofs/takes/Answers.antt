@@ -9,5 +9,5 @@ top_true-requires c = c.requires
 pub returns-then-is_going : goal.returns-then-is_going
 returns-then-is_going c = top-going c.args.log.now c.args.main.now c.args.m (sym c.is_going.ensures ∙ c.if-is_going.true) c.top_true.ensures
 
-pub returns : goal.returns
-returns c = top-not c.args.log.now c.args.main.now c.args.m (sym c.is_going.ensures ∙ c.if-is_going.false)
+pub returns-else-is_going : goal.returns-else-is_going
+returns-else-is_going c alt = c.if-is_going.false ∙ top-not c.args.log.now c.args.main.now c.args.m (sym c.is_going.ensures ∙ c.if-is_going.false) alt

@@ -7,10 +7,10 @@ pub returns-in-NumEqual : goal.returns-in-NumEqual
 returns-in-NumEqual c log = rw c.in-NumEqual.is (c.test.ensures log ∙ ap element c.equal.ensures)
 
 pub returns-in-BoolAnd : goal.returns-in-BoolAnd
-returns-in-BoolAnd c log = rw c.in-BoolAnd.is (c.test-in-BoolAnd.ensures log ∙ ap element (c.both.ensures ∙ rw (c.nonzero.ensures, c.nonzero-in-BoolAnd.ensures) refl))
+returns-in-BoolAnd c log = rw c.in-BoolAnd.is (c.test-in-BoolAnd.ensures log ∙ ap element (rw (c.nonzero.ensures, c.nonzero-in-BoolAnd.ensures) refl))
 
 pub returns-in-BoolOr : goal.returns-in-BoolOr
-returns-in-BoolOr c log = rw c.in-BoolOr.is (c.test-in-BoolOr.ensures log ∙ ap element (c.either.ensures ∙ rw (c.nonzero-in-BoolOr.ensures, c.nonzero-in-BoolOr-2.ensures) refl))
+returns-in-BoolOr c log = rw c.in-BoolOr.is (c.test-in-BoolOr.ensures log ∙ ap element (rw (c.nonzero-in-BoolOr.ensures, c.nonzero-in-BoolOr-2.ensures) refl))
 
 pub returns-in-Add : goal.returns-in-Add
 returns-in-Add c log = rw c.in-Add.is (c.sum.ensures log)

@@ -7,28 +7,20 @@ use Rattle.script_machine.specs.Words.{TOALTSTACK}
 use Rattle.spend_stack.specs.Memory.{main_in, alt_in}
 use Rattle.spend_stack.proofs.Memory.{keeps-all, alt-long, alt-keeps}
 use Rattle.spend_stack.proofs.Stacks.{put-length}
-use Rattle.spend_stack.proofs.Laws.{stays, aborts, one-stack, to-alts, moved_up}
+use Rattle.spend_stack.proofs.Laws.{not-ready, one-stack, to-alts, moved_up}
 use Rattle.spend_stack.proofs.Steps.{without-one, to-alt-none}
 use Rattle.spend_stack.proofs.to_alt.Goals as goal
 
-pub returns-then-n-lt1 : goal.returns-then-n-lt1
-returns-then-n-lt1 c = let going = sym c.is_going.ensures ∙ c.if-is_going.true in
-    let none = without-one c.args.log.now (main_in c.args.work.now) c.args.m TOALTSTACK to-alt-none c.if-n-lt1.true in
-    record {
-      does_both = one-stack (aborts going c.requires.0 c.with_status.ensures none);
-      keeps = keeps-all c.args.work.now;
-    }
-
-pub returns : goal.returns
-returns c = record {
-  does_both = one-stack (stays (sym c.is_going.ensures ∙ c.if-is_going.false) c.requires.0);
+pub returns-in-Err : goal.returns-in-Err
+returns-in-Err c = record {
+  does_both = one-stack (not-ready 1 c.requires.0 c.in-Err.ensures (without-one c.args.log.now (main_in c.args.work.now) c.args.m TOALTSTACK to-alt-none));
   keeps = keeps-all c.args.work.now;
 }
 
-pub returns-then-is_going : goal.returns-then-is_going
-returns-then-is_going c = let wide : 8192 ≤ length (alt_in c.args.work.now) = omega (arith, alt-long c.args.work.now c.requires.1) in
+pub returns-in-Ok : goal.returns-in-Ok
+returns-in-Ok c = let wide : 8192 ≤ length (alt_in c.args.work.now) = omega (arith, alt-long c.args.work.now c.requires.1) in
     let same : length c.put.new.memory ≡ length (alt_in c.args.work.now) = ap length c.put.ensures ∙ put-length (alt_in c.args.work.now) _ _ in record {
       does_both = moved_up c.args.work.now c.requires.1 c.put.new.memory same
-          (to-alts (sym c.is_going.ensures ∙ c.if-is_going.true) c.requires.0 wide c.if-n-lt1.false c.get-e.ensures c.put.ensures refl);
+          (to-alts c.in-Ok.ensures.0 c.requires.0 wide c.in-Ok.ensures.1 c.get-e.ensures c.put.ensures refl);
       keeps = alt-keeps c.args.work.now c.requires.1 c.put.new.memory same;
     }

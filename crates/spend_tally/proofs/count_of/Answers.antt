@@ -4,22 +4,13 @@ use Rattle.spend_tally.proofs.Counts.{none-counted, one-counted, at_most_one, al
 use Rattle.spend_tally.proofs.count_of.Goals as goal
 
 pub loop-i-init : goal.loop-i-init
-loop-i-init c = (omega arith, omega arith, none-counted _ _)
-
-pub verdict_in-requires : goal.verdict_in-requires
-verdict_in-requires c = omega (arith, c.requires, c.loop-i.invariant.0)
+loop-i-init c = (omega arith, none-counted _ _)
 
 pub overflow_add-count : goal.overflow_add-count
-overflow_add-count c = omega (arith, c.requires, at_most_one c.verdict_in.result _ c.one_if-count.ensures, c.loop-i.invariant.0, c.loop-i.invariant.1)
-
-pub overflow_add-i : goal.overflow_add-i
-overflow_add-i c = omega (arith, c.requires)
-
-pub loop-i-smaller : goal.loop-i-smaller
-loop-i-smaller c = omega arith
+overflow_add-count c = omega (arith, c.requires, at_most_one c.verdict_in.result _ c.one_if-count.ensures, c.loop-i.invariant.0)
 
 pub loop-i-preserved : goal.loop-i-preserved
-loop-i-preserved c = (omega arith, omega (arith, at_most_one c.verdict_in.result _ c.one_if-count.ensures), one-counted _ _ _ c.loop-i.invariant.2 c.verdict_in.ensures c.one_if-count.ensures)
+loop-i-preserved c = (omega (arith, at_most_one c.verdict_in.result _ c.one_if-count.ensures), one-counted _ _ _ c.loop-i.invariant.1 c.verdict_in.ensures c.one_if-count.ensures)
 
 pub returns : goal.returns
-returns c = all-counted _ _ _ _ c.loop-i.invariant.0 c.loop-i-test.false c.loop-i.invariant.2
+returns c = all-counted _ _ _ _ c.loop-i.auto.i-end c.loop-i-test.false c.loop-i.invariant.1

@@ -7,9 +7,6 @@ use Rattle.tree_figures.proofs.all_valid.Goals as goal
 pub loop-at-init : goal.loop-at-init
 loop-at-init c = (figures-begin c.args.context c.args.tree.now c.args.work.now c.requires.1, refl)
 
-pub slice_bounds-valid_here-count : goal.slice_bounds-valid_here-count
-slice_bounds-valid_here-count c = omega (arith, ends-later c.loop-at.invariant.0.on c.requires.0.rows c.loop-at-test.true c.record_end-end.ensures)
-
 pub valid_here-requires : goal.valid_here-requires
 valid_here-requires c = figures-stand c.loop-at.invariant.0 c.requires.0.rows c.loop-at-test.true c.record_end-end.ensures
 
@@ -18,9 +15,6 @@ overflow_add-i c = omega (arith, figures-left c.loop-at.invariant.0 c.requires.0
 
 pub loop-at-smaller : goal.loop-at-smaller
 loop-at-smaller c = omega (arith, ends-later c.loop-at.invariant.0.on c.requires.0.rows c.loop-at-test.true c.record_end-end.ensures, c.loop-at-test.true)
-
-pub shape_of-work : goal.shape_of-work
-shape_of-work c = c.loop-at.invariant.1
 
 pub returns : goal.returns
 returns c = record {

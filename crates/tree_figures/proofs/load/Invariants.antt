@@ -1,9 +1,5 @@
-use Prim.Native.Nat.{◌-◌, ◌≤◌}
 use Rattle.tree_figures.specs.Memory.{Loaded}
 use Rattle.tree_figures.proofs.load.Given as goal
 
 abbrev pub invariant-loop-j : goal.invariant-loop-j
-invariant-loop-j l = Loaded l.work l.numbers l.j l.out × (l.j ≤ l.n)
-
-abbrev pub decreases-loop-j : goal.decreases-loop-j
-decreases-loop-j l = l.n - l.j
+invariant-loop-j l = Loaded l.work l.numbers l.j l.out

@@ -1,10 +1,11 @@
 -- `trees::check_records` meets its contract: the bytes behind the records read decide, and the count of free slots is kept. Assumes nothing.
 use native.Mathlib.Omega.{arith}
-use mathlib.Core.Path.{sym, ap, ◌∙◌}
+use mathlib.Core.Path.{refl, sym, ap, ◌∙◌}
 use lib.ListN.{length}
+use Rattle.std.proofs.lemmas.Result.{err_from_is_err_and}
 use Rattle.records.proofs.Laws.{whole_length, broken-length}
 use Rattle.trees.proofs.LoopLaws.{Turn, progress_start, free-few, progress-large, progress-broken, end-within, end_later}
-use Rattle.trees.proofs.LoopLaws.{same-room, progress-bad, progress-ill, progress-tall, progress-free, progress-next}
+use Rattle.trees.proofs.LoopLaws.{same-room, progress-refused, progress-free, progress-next}
 use Rattle.trees.proofs.LoopLaws.{progress-unused, progress-root, some_read}
 use Rattle.trees.proofs.check_records.Goals as goal
 
@@ -31,125 +32,61 @@ returns-in_default c = let broken = broken-length c.args.tree.now c.loop-at.at c
     }
 
 pub overflow_add-end : goal.overflow_add-end
-overflow_add-end c = let turn : Turn c.args.context c.args.tree.now c.loop-at.work c.loop-at.at c.loop-at.read c.loop-at.free c.in-Whole.len
+overflow_add-end c = let turn : Turn c.args.context c.args.tree.now c.loop-at.work c.loop-at.at c.loop-at.read c.loop-at.free c.in-Some.len
     = record {
       so_far = c.loop-at.invariant;
       inside = c.loop-at-test.true;
       more = omega (arith, c.if-read-eq-MAX_RECORDS.false, c.loop-at.invariant.few);
-      whole = whole_length c.args.tree.now c.loop-at.at c.length_at.ensures c.in-Whole.is;
+      whole = whole_length c.args.tree.now c.loop-at.at c.length_at.ensures c.in-Some.is;
     } in
     omega (arith, end-within turn)
-
-pub slice_bounds-check_record-count : goal.slice_bounds-check_record-count
-slice_bounds-check_record-count c = omega arith
-
-pub check_record-requires : goal.check_record-requires
-check_record-requires c = omega (arith, c.if-read-eq-MAX_RECORDS.false, c.loop-at.invariant.few, c.loop-at.invariant.room)
 
 pub overflow_add-free : goal.overflow_add-free
 overflow_add-free c = omega (arith, free-few c.loop-at.invariant)
 
 pub overflow_sub-free : goal.overflow_sub-free
-overflow_sub-free c = let turn : Turn c.args.context c.args.tree.now c.loop-at.work c.loop-at.at c.loop-at.read c.loop-at.free c.in-Whole.len
+overflow_sub-free c = let turn : Turn c.args.context c.args.tree.now c.loop-at.work c.loop-at.at c.loop-at.read c.loop-at.free c.in-Some.len
     = record {
       so_far = c.loop-at.invariant;
       inside = c.loop-at-test.true;
       more = omega (arith, c.if-read-eq-MAX_RECORDS.false, c.loop-at.invariant.few);
-      whole = whole_length c.args.tree.now c.loop-at.at c.length_at.ensures c.in-Whole.is;
+      whole = whole_length c.args.tree.now c.loop-at.at c.length_at.ensures c.in-Some.is;
     } in
-    omega (arith, progress-free turn c.check_record.ensures c.in-Next.is)
+    omega (arith, progress-free turn c.in_ok-children.ensures refl)
 
-pub shape_of-work-in-BadTree : goal.shape_of-work-in-BadTree
-shape_of-work-in-BadTree c = let turn : Turn c.args.context c.args.tree.now c.loop-at.work c.loop-at.at c.loop-at.read c.loop-at.free c.in-Whole.len
+pub returns-in_err-children : goal.returns-in_err-children
+returns-in_err-children c = let turn : Turn c.args.context c.args.tree.now c.loop-at.work c.loop-at.at c.loop-at.read c.loop-at.free c.in-Some.len
     = record {
       so_far = c.loop-at.invariant;
       inside = c.loop-at-test.true;
       more = omega (arith, c.if-read-eq-MAX_RECORDS.false, c.loop-at.invariant.few);
-      whole = whole_length c.args.tree.now c.loop-at.at c.length_at.ensures c.in-Whole.is;
+      whole = whole_length c.args.tree.now c.loop-at.at c.length_at.ensures c.in-Some.is;
     } in
-    same-room turn c.check_record.ensures c.requires
-
-pub returns-in-BadTree : goal.returns-in-BadTree
-returns-in-BadTree c = let turn : Turn c.args.context c.args.tree.now c.loop-at.work c.loop-at.at c.loop-at.read c.loop-at.free c.in-Whole.len
-    = record {
-      so_far = c.loop-at.invariant;
-      inside = c.loop-at-test.true;
-      more = omega (arith, c.if-read-eq-MAX_RECORDS.false, c.loop-at.invariant.few);
-      whole = whole_length c.args.tree.now c.loop-at.at c.length_at.ensures c.in-Whole.is;
-    } in
+    let p = err_from_is_err_and c.from_residual.result c.from_residual.ensures.1 in
     record {
-      result_value = progress-bad turn c.check_record.ensures c.in-BadTree.is;
+      result_value = rw (p.1, p.2) (progress-refused turn c.in_err-children.ensures refl);
       work_len_unchanged = same-room turn c.check_record.ensures c.requires;
     }
-
-pub shape_of-work-in-IllTyped : goal.shape_of-work-in-IllTyped
-shape_of-work-in-IllTyped c = let turn : Turn c.args.context c.args.tree.now c.loop-at.work c.loop-at.at c.loop-at.read c.loop-at.free c.in-Whole.len
-    = record {
-      so_far = c.loop-at.invariant;
-      inside = c.loop-at-test.true;
-      more = omega (arith, c.if-read-eq-MAX_RECORDS.false, c.loop-at.invariant.few);
-      whole = whole_length c.args.tree.now c.loop-at.at c.length_at.ensures c.in-Whole.is;
-    } in
-    same-room turn c.check_record.ensures c.requires
-
-pub returns-in-IllTyped : goal.returns-in-IllTyped
-returns-in-IllTyped c = let turn : Turn c.args.context c.args.tree.now c.loop-at.work c.loop-at.at c.loop-at.read c.loop-at.free c.in-Whole.len
-    = record {
-      so_far = c.loop-at.invariant;
-      inside = c.loop-at-test.true;
-      more = omega (arith, c.if-read-eq-MAX_RECORDS.false, c.loop-at.invariant.few);
-      whole = whole_length c.args.tree.now c.loop-at.at c.length_at.ensures c.in-Whole.is;
-    } in
-    record {
-      result_value = progress-ill turn c.check_record.ensures c.in-IllTyped.is;
-      work_len_unchanged = same-room turn c.check_record.ensures c.requires;
-    }
-
-pub shape_of-work-in-TooTall : goal.shape_of-work-in-TooTall
-shape_of-work-in-TooTall c = let turn : Turn c.args.context c.args.tree.now c.loop-at.work c.loop-at.at c.loop-at.read c.loop-at.free c.in-Whole.len
-    = record {
-      so_far = c.loop-at.invariant;
-      inside = c.loop-at-test.true;
-      more = omega (arith, c.if-read-eq-MAX_RECORDS.false, c.loop-at.invariant.few);
-      whole = whole_length c.args.tree.now c.loop-at.at c.length_at.ensures c.in-Whole.is;
-    } in
-    same-room turn c.check_record.ensures c.requires
-
-pub returns-in-TooTall : goal.returns-in-TooTall
-returns-in-TooTall c = let turn : Turn c.args.context c.args.tree.now c.loop-at.work c.loop-at.at c.loop-at.read c.loop-at.free c.in-Whole.len
-    = record {
-      so_far = c.loop-at.invariant;
-      inside = c.loop-at-test.true;
-      more = omega (arith, c.if-read-eq-MAX_RECORDS.false, c.loop-at.invariant.few);
-      whole = whole_length c.args.tree.now c.loop-at.at c.length_at.ensures c.in-Whole.is;
-    } in
-    record {
-      result_value = progress-tall turn c.check_record.ensures c.in-TooTall.is;
-      work_len_unchanged = same-room turn c.check_record.ensures c.requires;
-    }
-
-pub overflow_add-read : goal.overflow_add-read
-overflow_add-read c = omega (arith, c.loop-at.invariant.few)
 
 pub loop-at-smaller : goal.loop-at-smaller
-loop-at-smaller c = let turn : Turn c.args.context c.args.tree.now c.loop-at.work c.loop-at.at c.loop-at.read c.loop-at.free c.in-Whole.len
+loop-at-smaller c = let turn : Turn c.args.context c.args.tree.now c.loop-at.work c.loop-at.at c.loop-at.read c.loop-at.free c.in-Some.len
     = record {
       so_far = c.loop-at.invariant;
       inside = c.loop-at-test.true;
       more = omega (arith, c.if-read-eq-MAX_RECORDS.false, c.loop-at.invariant.few);
-      whole = whole_length c.args.tree.now c.loop-at.at c.length_at.ensures c.in-Whole.is;
+      whole = whole_length c.args.tree.now c.loop-at.at c.length_at.ensures c.in-Some.is;
     } in
     omega (arith, end_later turn, c.loop-at-test.true)
 
 pub loop-at-preserved : goal.loop-at-preserved
-loop-at-preserved c = let turn : Turn c.args.context c.args.tree.now c.loop-at.work c.loop-at.at c.loop-at.read c.loop-at.free c.in-Whole.len
+loop-at-preserved c = let turn : Turn c.args.context c.args.tree.now c.loop-at.work c.loop-at.at c.loop-at.read c.loop-at.free c.in-Some.len
     = record {
       so_far = c.loop-at.invariant;
       inside = c.loop-at-test.true;
       more = omega (arith, c.if-read-eq-MAX_RECORDS.false, c.loop-at.invariant.few);
-      whole = whole_length c.args.tree.now c.loop-at.at c.length_at.ensures c.in-Whole.is;
+      whole = whole_length c.args.tree.now c.loop-at.at c.length_at.ensures c.in-Some.is;
     } in
-    progress-next turn c.check_record.ensures c.in-Next.is
+    progress-next turn c.in_ok-children.ensures refl
 
 pub root_type-requires : goal.root_type-requires
 root_type-requires c = (some_read c.loop-at.invariant c.if-free-eq1.true, omega (arith, c.loop-at.invariant.few, c.loop-at.invariant.room))

@@ -8,15 +8,15 @@ use Prim.Native.Nat.{◌-◌}
 use lib.ListN.{get_or}
 use Rattle.trees.proofs.root_type.Goals as goal
 
-pub returns-in-Free : goal.returns-in-Free
-returns-in-Free c = let told = free-slot (slot_of (get_or c.args.work.now (c.args.read - 1) 0)) c.slot_of.ensures c.in-Free.is in
+pub returns : goal.returns
+returns c = let told = free-slot (slot_of (get_or c.args.work.now (c.args.read - 1) 0)) c.slot_of.ensures c.in-Some.is in
     record {
       result_value = sym (ap (λ o. type_in (or_refuse bad_tree o)) (slot-at c.args.work.now c.args.read (c.args.read - 1) (omega arith) ∙ told));
       work_unchanged = refl;
     }
 
-pub returns-in-Taken : goal.returns-in-Taken
-returns-in-Taken c = let told = taken-slot (slot_of (get_or c.args.work.now (c.args.read - 1) 0)) c.slot_of.ensures c.in-Taken.is in
+pub returns-in_default : goal.returns-in_default
+returns-in_default c = let told = taken-slot (slot_of (get_or c.args.work.now (c.args.read - 1) 0)) c.slot_of.ensures c.in_default.is in
     record {
       result_value = sym (ap (λ o. type_in (or_refuse bad_tree o)) (slot-at c.args.work.now c.args.read (c.args.read - 1) (omega arith) ∙ told));
       work_unchanged = refl;

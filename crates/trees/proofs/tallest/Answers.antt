@@ -6,23 +6,11 @@ use lib.ListN.{length}
 use Rattle.trees.proofs.Subtrees.{tall-next, tall-end}
 use Rattle.trees.proofs.tallest.Goals as goal
 
-pub offset_bounds-subtrees-i : goal.offset_bounds-subtrees-i
-offset_bounds-subtrees-i c = omega arith
-
-pub bounds-subtrees-i : goal.bounds-subtrees-i
-bounds-subtrees-i c = omega arith
-
-pub overflow_add-i : goal.overflow_add-i
-overflow_add-i c = omega arith
-
-pub loop-i-smaller : goal.loop-i-smaller
-loop-i-smaller c = omega arith
-
 pub loop-i-preserved : goal.loop-i-preserved
 loop-i-preserved c = let length-16 : length c.args.subtrees ≡ 16 = search rules in (
   omega arith,
-  tall-next c.args.subtrees c.args.n _ c.loop-i.tall c.greater-tall.result c.loop-i.i (omega arith) (omega (arith, length-16))
-      c.greater-tall.ensures c.loop-i.invariant.1,
+  tall-next c.args.subtrees c.args.n _ c.loop-i.tall c.max-tall.result c.loop-i.i (omega arith) (omega (arith, length-16))
+      c.max-tall.ensures c.loop-i.invariant.1,
 )
 
 pub returns : goal.returns

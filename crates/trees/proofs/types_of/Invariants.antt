@@ -1,5 +1,5 @@
 -- `trees::types_of` meets its contract: the types so far, with those still to come, are all. Assumes nothing.
-use Prim.Native.Nat.{◌≤◌, ◌-◌}
+use Prim.Native.Nat.{◌≤◌}
 use mathlib.Core.Path.{◌≡◌}
 use lib.ListN.{length}
 use Rattle.trees.proofs.Subtrees.{TypesSoFar}
@@ -7,6 +7,3 @@ use Rattle.trees.proofs.types_of.Given as goal
 
 abbrev pub invariant-loop-i : goal.invariant-loop-i
 invariant-loop-i l = (l.i ≤ 16) × (length l.types ≡ 16) × TypesSoFar l.subtrees l.types l.i
-
-abbrev pub decreases-loop-i : goal.decreases-loop-i
-decreases-loop-i l = 16 - l.i

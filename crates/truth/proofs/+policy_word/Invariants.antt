@@ -1,4 +1,3 @@
-use Prim.Native.Nat.{◌-◌}
 use Rattle.policies.specs.Array.{policy_at}
 use Rattle.variables.specs.Gathering.{row_of}
 use Rattle.truth.proofs.PolicyWords as P
@@ -9,6 +8,3 @@ decreases-policy_word l = l.i
 
 abbrev pub invariant-loop-j : goal.invariant-loop-j
 invariant-loop-j l = P.ChildrenOn (policy_at l.pol l.i) (row_of l.t) l.words l.all.planes l.j
-
-abbrev pub decreases-loop-j : goal.decreases-loop-j
-decreases-loop-j l = l.n - l.j

@@ -1,4 +1,3 @@
-use Prim.Native.Nat.{◌-◌}
 use mathlib.Core.Path.{◌≡◌}
 use lib.ListN.{length}
 use Rattle.variables.specs.Gathering.{row_of}
@@ -7,6 +6,3 @@ use Rattle.truth.proofs.alike.Given as goal
 
 abbrev pub invariant-loop-block : goal.invariant-loop-block
 invariant-loop-block l = BlocksOn l.pol l.root l.tree (row_of l.t) l.block × (length l.work ≡ length l.initial.work)
-
-abbrev pub decreases-loop-block : goal.decreases-loop-block
-decreases-loop-block l = 64 - l.block

@@ -5,23 +5,8 @@ use Rattle.truth.proofs.Counting.{children-begin, children-more, children-done}
 use native.Mathlib.Omega.{arith}
 use Rattle.truth.proofs.count_children.Goals as goal
 
-pub offset_bounds-numbers-i : goal.offset_bounds-numbers-i
-offset_bounds-numbers-i c = omega (arith, c.requires.1.0)
-
-pub bounds-numbers-i : goal.bounds-numbers-i
-bounds-numbers-i c = omega (arith, c.requires.1.0)
-
 pub word_at-word-requires : goal.word_at-word-requires
 word_at-word-requires c = c.requires.1.1 c.loop-i.i c.loop-i-test.true
-
-pub one_more-all-requires : goal.one_more-all-requires
-one_more-all-requires c = c.loop-i.invariant.long
-
-pub overflow_add-i : goal.overflow_add-i
-overflow_add-i c = omega arith
-
-pub loop-i-smaller : goal.loop-i-smaller
-loop-i-smaller c = omega arith
 
 pub returns : goal.returns
 returns c = record {

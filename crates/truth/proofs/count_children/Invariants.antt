@@ -1,9 +1,5 @@
-use Prim.Native.Nat.{◌-◌}
 use Rattle.truth.proofs.Counting.{ChildrenOn}
 use Rattle.truth.proofs.count_children.Given as goal
 
 abbrev pub invariant-loop-i : goal.invariant-loop-i
 invariant-loop-i l = ChildrenOn l.initial.all.planes l.work l.numbers l.n l.i l.all.planes
-
-abbrev pub decreases-loop-i : goal.decreases-loop-i
-decreases-loop-i l = l.n - l.i

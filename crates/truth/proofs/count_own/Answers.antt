@@ -6,24 +6,6 @@ use Rattle.truth.proofs.count_own.Goals as goal
 pub loop-i-init : goal.loop-i-init
 loop-i-init c = own-begin c.args.c.planes c.args.own.list (row_of c.args.t) c.args.words c.args.own.n c.requires.0
 
-pub offset_bounds-list-i : goal.offset_bounds-list-i
-offset_bounds-list-i c = omega (arith, c.requires.1.1.0)
-
-pub bounds-list-i : goal.bounds-list-i
-bounds-list-i c = omega (arith, c.requires.1.1.0)
-
-pub word_for-word-requires : goal.word_for-word-requires
-word_for-word-requires c = c.requires.1.0
-
-pub one_more-all-requires : goal.one_more-all-requires
-one_more-all-requires c = c.loop-i.invariant.long
-
-pub overflow_add-i : goal.overflow_add-i
-overflow_add-i c = omega arith
-
-pub loop-i-smaller : goal.loop-i-smaller
-loop-i-smaller c = omega arith
-
 pub loop-i-preserved : goal.loop-i-preserved
 loop-i-preserved c = own-more c.loop-i.invariant (omega (arith, c.requires.1.1.0, c.requires.1.1.1)) c.loop-i-test.true c.word_for-word.ensures c.one_more-all.ensures
 

@@ -1,9 +1,5 @@
-use Prim.Native.Nat.{◌-◌}
 use Rattle.truth.proofs.PlaneLaws.{OneOn}
 use Rattle.truth.proofs.one_more.Given as goal
 
 abbrev pub invariant-loop-t : goal.invariant-loop-t
 invariant-loop-t l = OneOn l.planes l.x l.next l.t
-
-abbrev pub decreases-loop-t : goal.decreases-loop-t
-decreases-loop-t l = 17 - l.t

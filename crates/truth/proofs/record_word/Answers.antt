@@ -14,11 +14,11 @@ count_children-second-requires c = (c.count_own-first.ensures.planes_len, (few-h
 pub count_again-counted-requires : goal.count_again-counted-requires
 count_again-counted-requires c = (c.count_children-second.ensures.planes_len, third-inside c.requires.0 c.fragment_parts-parts.ensures c.kind_of-kind.ensures c.arity-n.ensures)
 
-pub offset_bounds-planes-gate : goal.offset_bounds-planes-gate
-offset_bounds-planes-gate c = omega (arith, gate-inside c.requires.0 c.fragment_parts-parts.ensures c.kind_of-kind.ensures c.arity-n.ensures c.tree_gate-gate.ensures)
+pub offset_bounds-counted-gate : goal.offset_bounds-counted-gate
+offset_bounds-counted-gate c = omega (arith, gate-inside c.requires.0 c.fragment_parts-parts.ensures c.kind_of-kind.ensures c.arity-n.ensures c.tree_gate-gate.ensures)
 
-pub bounds-planes-gate : goal.bounds-planes-gate
-bounds-planes-gate c = gate-inside c.requires.0 c.fragment_parts-parts.ensures c.kind_of-kind.ensures c.arity-n.ensures c.tree_gate-gate.ensures
+pub bounds-counted-gate : goal.bounds-counted-gate
+bounds-counted-gate c = gate-inside c.requires.0 c.fragment_parts-parts.ensures c.kind_of-kind.ensures c.arity-n.ensures c.tree_gate-gate.ensures
 
 pub returns : goal.returns
 returns c = word-is c.requires.0 c.fragment_parts-parts.ensures c.kind_of-kind.ensures c.arity-n.ensures c.own_of-own.ensures (c.count_again-counted.ensures _ (c.count_children-second.ensures.by_index _ (c.count_own-first.ensures.by_index _ c.no_places.ensures))) c.tree_gate-gate.ensures

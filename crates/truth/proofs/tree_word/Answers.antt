@@ -8,11 +8,8 @@ use Rattle.truth.proofs.tree_word.Goals as goal
 pub loop-at-init : goal.loop-at-init
 loop-at-init c = words-begin c.args.tree.now c.args.work.now (row_of c.args.t) c.args.words c.requires.1.0
 
-pub slice_bounds-record_word-count : goal.slice_bounds-record_word-count
-slice_bounds-record_word-count c = omega (arith, ends-later c.loop-at.invariant.on c.requires.0.rows c.loop-at-test.true c.record_end-end.ensures)
-
-pub record_word-word-requires : goal.record_word-word-requires
-record_word-word-requires c = (words-stand c.loop-at.invariant c.requires.0.rows c.loop-at-test.true c.record_end-end.ensures, c.requires.1.1)
+pub record_word-requires : goal.record_word-requires
+record_word-requires c = (words-stand c.loop-at.invariant c.requires.0.rows c.loop-at-test.true c.record_end-end.ensures, c.requires.1.1)
 
 pub offset_bounds-work-i : goal.offset_bounds-work-i
 offset_bounds-work-i c = omega (arith, words_left c.loop-at.invariant c.requires.0.rows c.loop-at-test.true)
@@ -27,7 +24,7 @@ pub loop-at-smaller : goal.loop-at-smaller
 loop-at-smaller c = omega (arith, ends-later c.loop-at.invariant.on c.requires.0.rows c.loop-at-test.true c.record_end-end.ensures, c.loop-at-test.true)
 
 pub loop-at-preserved : goal.loop-at-preserved
-loop-at-preserved c = words_more c.loop-at.invariant c.requires.0.rows c.loop-at-test.true c.record_end-end.ensures c.record_word-word.ensures
+loop-at-preserved c = words_more c.loop-at.invariant c.requires.0.rows c.loop-at-test.true c.record_end-end.ensures c.record_word.ensures
 
 pub overflow_sub-result : goal.overflow_sub-result
 overflow_sub-result c = (words-any c.loop-at.invariant c.requires.0.rows c.loop-at-test.false).0

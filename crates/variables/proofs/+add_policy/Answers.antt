@@ -4,10 +4,6 @@ use native.Mathlib.Omega.{arith}
 use Rattle.variables.proofs.PolicyGathering as G
 use Rattle.variables.proofs.+add_policy.Goals as goal
 
-pub add-requires : goal.add-requires
-add-requires t c =
-    c.requires.1.1
-
 pub returns-then-kind-lt3 : goal.returns-then-kind-lt3
 returns-then-kind-lt3 t c =
     record { gathered = λ l x. G.no-variables c.args.pol.now c.args.i c.requires.0 c.requires.1.0 c.head_of-head.ensures c.args.t c.if-kind-lt3.true l x; roomy = c.requires.1.1 }

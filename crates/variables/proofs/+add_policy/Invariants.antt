@@ -1,4 +1,3 @@
-use Prim.Native.Nat.{◌-◌}
 use Rattle.policies.specs.Forms.{children_of}
 use Rattle.policies.specs.Array.{policy_at}
 use Rattle.variables.proofs.PolicyGathering as G
@@ -9,6 +8,3 @@ decreases-add_policy l = l.i
 
 abbrev pub invariant-loop-j : goal.invariant-loop-j
 invariant-loop-j l = G.PolicyOn l.initial.all (children_of (policy_at l.pol l.i)) l.j l.all
-
-abbrev pub decreases-loop-j : goal.decreases-loop-j
-decreases-loop-j l = l.n - l.j

@@ -1,5 +1,4 @@
 use Rattle.variables.proofs.Rows.{add-over, add-met, add-full, add-new, new-roomy, full-roomy}
-use native.Mathlib.Omega.{arith}
 use Rattle.variables.proofs.add.Goals as goal
 
 pub returns-then-t : goal.returns-then-t
@@ -7,9 +6,6 @@ returns-then-t c = record {
   value = add-over c.args.t c.args.x c.if-t.true;
   roomy = c.requires;
 }
-
-pub has-requires : goal.has-requires
-has-requires c = c.requires
 
 pub returns-then-has : goal.returns-then-has
 returns-then-has c = record {
@@ -22,15 +18,6 @@ returns-then-n-eq-MAX_VARIABLES c = record {
   value = add-full c.args.t c.args.x c.if-t.false c.has.ensures c.if-has.false c.if-n-eq-MAX_VARIABLES.true;
   roomy = full-roomy c.args.t c.args.x c.requires;
 }
-
-pub offset_bounds-list-n : goal.offset_bounds-list-n
-offset_bounds-list-n c = omega (arith, c.requires.few, c.if-n-eq-MAX_VARIABLES.false)
-
-pub bounds-list-n : goal.bounds-list-n
-bounds-list-n c = omega (arith, c.requires.few, c.if-n-eq-MAX_VARIABLES.false)
-
-pub overflow_add-result : goal.overflow_add-result
-overflow_add-result c = omega (arith, c.requires.few)
 
 pub returns : goal.returns
 returns c = record {

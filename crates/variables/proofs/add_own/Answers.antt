@@ -5,21 +5,6 @@ use Rattle.variables.proofs.add_own.Goals as goal
 pub loop-j-init : goal.loop-j-init
 loop-j-init c = own-begin c.args.t c.args.own.list c.args.own.n c.requires.0
 
-pub offset_bounds-list-j : goal.offset_bounds-list-j
-offset_bounds-list-j c = omega (arith, c.requires.1.0)
-
-pub bounds-list-j : goal.bounds-list-j
-bounds-list-j c = omega (arith, c.requires.1.0)
-
-pub add-all-requires : goal.add-all-requires
-add-all-requires c = c.loop-j.invariant.room
-
-pub overflow_add-j : goal.overflow_add-j
-overflow_add-j c = omega arith
-
-pub loop-j-smaller : goal.loop-j-smaller
-loop-j-smaller c = omega arith
-
 pub loop-j-preserved : goal.loop-j-preserved
 loop-j-preserved c = own-more c.loop-j.invariant (omega (arith, c.requires.1.1, c.requires.1.0)) c.loop-j-test.true c.add-all.ensures.value c.add-all.ensures.roomy
 

@@ -6,9 +6,6 @@ use Rattle.variables.proofs.add_tree.Goals as goal
 pub loop-at-init : goal.loop-at-init
 loop-at-init c = tree-begin c.args.tree.now c.args.t c.requires.1
 
-pub slice_bounds-own_of-count : goal.slice_bounds-own_of-count
-slice_bounds-own_of-count c = omega (arith, ends-later c.loop-at.invariant.on c.requires.0.rows c.loop-at-test.true c.record_end-end.ensures)
-
 pub own_of-own-requires : goal.own_of-own-requires
 own_of-own-requires c = tree-fits c.loop-at.invariant c.requires.0.rows c.loop-at-test.true c.record_end-end.ensures
 

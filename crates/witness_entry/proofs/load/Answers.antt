@@ -18,12 +18,6 @@ offset_bounds-out-j c = omega (arith, c.requires.0)
 pub bounds-out-j : goal.bounds-out-j
 bounds-out-j c = omega (arith, c.requires.0)
 
-pub overflow_add-j : goal.overflow_add-j
-overflow_add-j c = omega arith
-
-pub loop-j-smaller : goal.loop-j-smaller
-loop-j-smaller c = omega arith
-
 pub loop-j-preserved : goal.loop-j-preserved
 loop-j-preserved c = (load-more c.loop-j.invariant.0 (omega (arith, c.requires.0, c.loop-j-test.true)) c.both_at.ensures.value c.both_at.ensures.both_below, omega arith)
 

@@ -4,12 +4,12 @@ use Rattle.witness_report.specs.Answers.{unreadable, too_long}
 use Rattle.witness_report.proofs.Outcomes.{whole-less, input-read}
 use Rattle.witness_report.proofs.input.Goals as goal
 
-pub returns-in-Whole : goal.returns-in-Whole
-returns-in-Whole g c =
-    input-read c.read_path.new.room (whole-less c.read_path.ensures c.in-Whole.is) (search rules) c.costs.ensures
+pub returns-in-Ok : goal.returns-in-Ok
+returns-in-Ok g c =
+    input-read c.read_path.new.room (whole-less c.read_path.ensures c.in-Ok.is) (search rules) c.costs.ensures
 
-pub returns-in-TooLong : goal.returns-in-TooLong
-returns-in-TooLong g c = too_long
+pub returns-in-Err-TooLong : goal.returns-in-Err-TooLong
+returns-in-Err-TooLong g c = too_long
 
-pub returns-in-Failed : goal.returns-in-Failed
-returns-in-Failed g c = unreadable
+pub returns-in-Err-Failed : goal.returns-in-Err-Failed
+returns-in-Err-Failed g c = unreadable

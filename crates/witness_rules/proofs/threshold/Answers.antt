@@ -6,20 +6,8 @@ use lib.ListN.{length}
 use Rattle.witness_rules.proofs.Counting.{from-none, from-fits, from_more, from_all}
 use Rattle.witness_rules.proofs.threshold.Goals as goal
 
-pub overflow_sub-i : goal.overflow_sub-i
-overflow_sub-i c = omega arith
-
-pub offset_bounds-children-i : goal.offset_bounds-children-i
-offset_bounds-children-i c = omega (arith, c.loop-i.invariant.upto, c.requires.0)
-
-pub bounds-children-i : goal.bounds-children-i
-bounds-children-i c = omega (arith, c.loop-i.invariant.upto, c.requires.0)
-
-pub loop-i-smaller : goal.loop-i-smaller
-loop-i-smaller c = omega arith
-
 pub loop-i-init : goal.loop-i-init
-loop-i-init c = let len : length c.args.children ≡ 16 = search rules in from-none c.args.n c.args.children c.requires.0 len
+loop-i-init c = let len : length c.args.children ≡ 16 = search rules in rw c.just.ensures (from-none c.args.n c.args.children c.requires.0 len)
 
 pub count_child-row-requires : goal.count_child-row-requires
 count_child-row-requires c = let len : length c.args.children ≡ 16 = search rules in (c.requires.1 (c.loop-i.i - 1) (omega (arith, len, c.loop-i.invariant.upto, c.requires.0)), from-fits c.args.n c.args.children c.requires.0 len c.requires.1 c.loop-i.invariant)

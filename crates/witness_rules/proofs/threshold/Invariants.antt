@@ -3,6 +3,3 @@ use Rattle.witness_rules.proofs.threshold.Given as goal
 
 abbrev pub invariant-loop-i : goal.invariant-loop-i
 invariant-loop-i l = CountedFrom l.n l.children l.row l.i
-
-abbrev pub decreases-loop-i : goal.decreases-loop-i
-decreases-loop-i l = l.i

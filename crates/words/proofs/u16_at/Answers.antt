@@ -1,11 +1,7 @@
 -- `words::u16_at` meets its contract: where both bytes are there, they write the number. Assumes nothing.
-use mathlib.Core.Bool.{true}
-use mathlib.Core.Path.{◌≡◌, sym, ap, ◌∙◌}
-use Prim.Native.Nat.{◌+◌, ◌≤◌}
+use mathlib.Core.Path.{sym, ◌∙◌}
+use Prim.Native.Nat.{◌+◌}
 use native.Mathlib.Omega.{arith}
-use lib.ListN.{length}
-use Rattle.words.specs.Answers.{read16}
-use Rattle.words.specs.Bytes.{has_bytes}
 use Rattle.words.proofs.Bytes.{room, found-2, missing}
 use Rattle.words.proofs.u16_at.Goals as goal
 
@@ -31,7 +27,7 @@ pub overflow_add-result : goal.overflow_add-result
 overflow_add-result c = omega (arith, c.shared_slice_known-then-has_bytes-2-1.given c.args.at, c.shared_slice_known-then-has_bytes-2-1.given (c.args.at + 1))
 
 pub returns-then-has_bytes : goal.returns-then-has_bytes
-returns-then-has_bytes c = sym (ap read16 (found-2 c.args.s.now c.args.at (sym c.has_bytes.ensures ∙ c.if-has_bytes.true)))
+returns-then-has_bytes c = sym (found-2 c.args.s.now c.args.at (sym c.has_bytes.ensures ∙ c.if-has_bytes.true))
 
 pub returns : goal.returns
-returns c = sym (ap read16 (missing 2 c.args.s.now c.args.at (sym c.has_bytes.ensures ∙ c.if-has_bytes.false)))
+returns c = sym (missing 2 c.args.s.now c.args.at (sym c.has_bytes.ensures ∙ c.if-has_bytes.false))

@@ -1,11 +1,7 @@
 -- `words::u32_at` meets its contract: where all four bytes are there, they write the number. Assumes nothing.
-use mathlib.Core.Bool.{true}
-use mathlib.Core.Path.{◌≡◌, sym, ap, ◌∙◌}
-use Prim.Native.Nat.{◌+◌, ◌≤◌}
+use mathlib.Core.Path.{sym, ◌∙◌}
+use Prim.Native.Nat.{◌+◌}
 use native.Mathlib.Omega.{arith}
-use lib.ListN.{length}
-use Rattle.words.specs.Answers.{read32}
-use Rattle.words.specs.Bytes.{has_bytes}
 use Rattle.words.proofs.Bytes.{room, found-4, missing}
 use Rattle.words.proofs.u32_at.Goals as goal
 
@@ -61,7 +57,7 @@ pub overflow_add-result-then-has_bytes-2 : goal.overflow_add-result-then-has_byt
 overflow_add-result-then-has_bytes-2 c = omega (arith, c.shared_slice_known-then-has_bytes-4-1.given c.args.at, c.shared_slice_known-then-has_bytes-4-1.given (c.args.at + 1), c.shared_slice_known-then-has_bytes-4-1.given (c.args.at + 2), c.shared_slice_known-then-has_bytes-4-1.given (c.args.at + 3))
 
 pub returns-then-has_bytes : goal.returns-then-has_bytes
-returns-then-has_bytes c = sym (ap read32 (found-4 c.args.s.now c.args.at (sym c.has_bytes.ensures ∙ c.if-has_bytes.true)))
+returns-then-has_bytes c = sym (found-4 c.args.s.now c.args.at (sym c.has_bytes.ensures ∙ c.if-has_bytes.true))
 
 pub returns : goal.returns
-returns c = sym (ap read32 (missing 4 c.args.s.now c.args.at (sym c.has_bytes.ensures ∙ c.if-has_bytes.false)))
+returns c = sym (missing 4 c.args.s.now c.args.at (sym c.has_bytes.ensures ∙ c.if-has_bytes.false))

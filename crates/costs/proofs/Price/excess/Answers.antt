@@ -1,9 +1,6 @@
 use lib.Ieee.{div, neg, of_bits}
 use Rattle.costs.proofs.Price.excess.Goals as goal
 
-pub returns-in-Finite-other : goal.returns-in-Finite-other
-returns-in-Finite-other c = simp (c.in-Finite-other.is, c.in-Finite.is)
-
 pub returns-in-Never-other : goal.returns-in-Never-other
 unfolding div neg of_bits
 returns-in-Never-other c = simp (c.in-Never-other.is, c.in-Finite.is)

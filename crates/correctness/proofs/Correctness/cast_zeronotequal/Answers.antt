@@ -1,4 +1,0 @@
-use Rattle.correctness.proofs.Correctness.cast_zeronotequal.Goals as goal
-
-pub returns : goal.returns
-returns c = simp (c.ok_if.ensures, c.is_b.ensures)

@@ -1,9 +1,0 @@
-use Rattle.correctness.proofs.Correctness.or_d.Goals as goal
-
-pub returns : goal.returns
-returns c = simp (
-  c.ok_if.ensures,
-  c.is_b.ensures,
-  c.is_bdu.ensures,
-  c.or_d_input-input.ensures,
-)

@@ -1,4 +1,0 @@
-use Rattle.correctness.proofs.CorrectnessSoFar.first.Goals as goal
-
-pub returns : goal.returns
-returns c = simp (c.or_b_input-taken.ensures, c.is_b.ensures)

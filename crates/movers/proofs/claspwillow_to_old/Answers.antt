@@ -1,7 +1,0 @@
--- `movers::claspwillow_to_old` meets its contract. Assumes nothing.
-use Rattle.moving.specs.declared.Form.TheVariants as Form
-use Rattle.movers.proofs.Promised.{promised}
-use Rattle.movers.proofs.claspwillow_to_old.Goals as goal
-
-pub returns : goal.returns
-returns c = promised Form.Old c.args.policy.now c.args.out.now _ c.move_policy-r.ensures

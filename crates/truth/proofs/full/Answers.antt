@@ -1,8 +1,0 @@
-use borrow.Author.Tests.{eq-eqb, ne_eqb}
-use Rattle.truth.proofs.full.Goals as goal
-
-pub returns-then-b-eq1 : goal.returns-then-b-eq1
-returns-then-b-eq1 c = simp (eq-eqb _ _ c.if-b-eq1.true)
-
-pub returns : goal.returns
-returns c = simp (ne_eqb _ _ c.if-b-eq1.false)
