@@ -156,7 +156,8 @@ pub fn length_of(work: &[u64], s: u16) -> usize
 {
     let key = work[KEYS + 3 * (s as usize)];
     let len = (key / 0x2_0000) as usize;
-    len.min(MAX_ENTRIES)
+    // Not by `min`: with it clang knows the length's range no more, and i686 divides by a library's routine for each pair.
+    if len < MAX_ENTRIES { len } else { MAX_ENTRIES }
 }
 
 // Entry j of table s.

@@ -408,7 +408,7 @@ impl Candidate {
             7 => self.cast_swap(node),
             8 => self.cast_alt(node),
             9 => self.cast_zeronotequal(node),
-            _ => Err(CastError::Unknown),
+            10..=255 => Err(CastError::Unknown),
         }
     }
 
@@ -536,13 +536,14 @@ impl Candidate {
     {
         // A kind stays a number: a record or a node holds one, and the contract answers on every number.
         match kind {
+            0..=48 => Err(NotMade::PassedOver),
             49 => Candidate::and_b(l, l_node, r, r_node, lprob, rprob),
             50 => Candidate::and_v(l, l_node, r, r_node, lprob, rprob),
             51 => Candidate::or_b(l, l_node, r, r_node, lprob, rprob),
             52 => Candidate::or_d(l, l_node, r, r_node, lprob, rprob),
             53 => Candidate::or_c(l, l_node, r, r_node, lprob, rprob),
             54 => Candidate::or_i(l, l_node, r, r_node, lprob, rprob),
-            _ => Err(NotMade::PassedOver),
+            55..=65535 => Err(NotMade::PassedOver),
         }
     }
 

@@ -4,6 +4,7 @@ use Rattle.std.specs.Prelude.{ℕ, cond, List, [], ◌∷◌, ◌≡◌, leb, lt
 use Prim.Native.Char.{code}
 use Prim.Native.String.{String}
 use Prim.Native.String.{[] as empty, ◌∷◌ as ◌then◌}
+use Rattle.command_line.specs.declared.Asked.{Asked}
 use Rattle.command_line.specs.declared.Command.{Command}
 use Rattle.command_line.specs.declared.Command.TheVariants.{Compile, Size, Check, Script, Words, Differ, Index, At, Accept, New, Old}
 use Rattle.command_line.specs.declared.Count.{Count}
@@ -97,3 +98,21 @@ most_words Old = 4
 -- how so many words suit a command
 abbrev pub count_for : Command → (words : ℕ) → Count
 count_for command words = cond (leb words (last_word command)) TooFew (cond (ltb (most_words command) words) TooMany Right)
+
+-- what a command asks in a context; nothing without one. A mover asks the same in any, and its context is 0.
+abbrev pub asked_in : Command → (context : ℕ) → Asked
+asked_in Compile n = record { command = Compile; context = n }
+asked_in Size n = record { command = Size; context = n }
+asked_in Check n = record { command = Check; context = n }
+asked_in Script n = record { command = Script; context = n }
+asked_in Words n = record { command = Words; context = n }
+asked_in Differ n = record { command = Differ; context = n }
+asked_in Index n = record { command = Index; context = n }
+asked_in At n = record { command = At; context = n }
+asked_in Accept n = record { command = Accept; context = n }
+asked_in New n = record { command = New; context = 0 }
+asked_in Old n = record { command = Old; context = 0 }
+
+abbrev pub asked_of : Command → Option ℕ → Option Asked
+asked_of command (Some n) = Some (asked_in command n)
+asked_of command None = None

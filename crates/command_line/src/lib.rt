@@ -5,7 +5,7 @@
 #![tactic(auto)]
 
 ghost use Rattle.std.specs.Prelude.{◌≡◌};
-ghost use Rattle.command_line.specs.Words.{Names, NamesLater, context_place, last_word, most_words, count_for};
+ghost use Rattle.command_line.specs.Words.{Names, NamesLater, context_place, last_word, most_words, count_for, asked_of};
 
 use files::{WORD_ROOM, say, word, word_count};
 use std::rt::Env;
@@ -222,6 +222,18 @@ fn count_for(command: Command, words: usize) -> Count
     Count::Right
 }
 
+// What a command asks in a context, if there is one; a mover asks the same in any.
+fn asked_in(command: Command, context: Option<u32>) -> Option<Asked>
+    ensures { result ≡ asked_of command context }
+{
+    let given = context?;
+    let context = match command {
+        Command::New | Command::Old => 0,
+        _ => given,
+    };
+    Some(Asked { command, context })
+}
+
 // Whether a script is to be shown word by word.
 fn words_wanted(rt: &impl Env) -> bool {
     let mut room = [0u8; WORD_ROOM];
@@ -301,6 +313,5 @@ pub fn what_is_asked<R: Env + Eprint>(rt: &R) -> Option<Asked> {
         usage(rt, "no command that it knows");
         return None;
     };
-    let context = context_given(rt, command)?;
-    Some(Asked { command, context })
+    asked_in(command, context_given(rt, command))
 }

@@ -5,7 +5,8 @@ use Rattle.std.specs.Prelude.{Result, Ok, Err, is_ok}
 use mathlib.Core.Path.{◌≡◌, refl, sym, ap, ◌∙◌}
 use mathlib.Core.Bool.{Bool, true, false, cond, true≢false}
 use mathlib.Core.List.{List, [], ◌∷◌}
-use Prim.Native.Nat.{ℕ}
+use Prim.Native.Nat.{ℕ, ◌<◌, ◌≤◌}
+use native.Mathlib.Omega.{arith}
 use borrow.Author.Tests.{ne_eqb}
 use lib.Dec.{eqb}
 use lib.Ieee.{Float}
@@ -75,3 +76,9 @@ module _ (kind : ℕ) (l r : «Type») where
         ne_eqb kind 53 n.0.1,
         ne_eqb kind 54 n.1,
       )
+
+  pub fits_below : kind < 49 → false ≡ fits_from all_pairs kind l r
+  fits_below h =
+      let no : (k : ℕ) → 49 ≤ k → kind ≢ k = λ k le e. omega arith in
+      fits-above
+      ((((((tt, no 49 (omega arith)), no 50 (omega arith)), no 51 (omega arith)), no 52 (omega arith)), no 53 (omega arith)), no 54 (omega arith))

@@ -66,13 +66,14 @@ fn fits(kind: u16, l: Type, r: Type) -> bool
 {
     // A kind stays a number: a record or a node holds one, and the contract answers on every number.
     match kind {
+        0..=48 => false,
         49 => Type::and_b(l, r).is_ok(),
         50 => Type::and_v(l, r).is_ok(),
         51 => Type::or_b(l, r).is_ok(),
         52 => Type::or_d(l, r).is_ok(),
         53 => Type::or_c(l, r).is_ok(),
         54 => Type::or_i(l, r).is_ok(),
-        _ => false,
+        55..=65535 => false,
     }
 }
 

@@ -12,7 +12,7 @@ ghost use Rattle.records.specs.Payloads.{keys_in};
 ghost use Rattle.walk.specs.TreeRecords.{TreeRecords, Written, record_at, fragment_at};
 ghost use Rattle.walk.specs.Nodes.{Placed, AllPlaced};
 ghost use Rattle.script_bytes.specs.Tables.{tables, key_size, whole};
-ghost use Rattle.script_bytes.specs.ScriptOf.{has_keys, has_entries, fitting, script_in, script_of, ScriptPromise};
+ghost use Rattle.script_bytes.specs.ScriptOf.{has_keys, has_entries, fitting, script_in, ScriptPromise};
 ghost use Rattle.script_bytes.specs.Encoding.{script_bytes};
 ghost use Rattle.script_bytes.specs.Layout.{bytes_of};
 ghost use Rattle.script_bytes.specs.Entries.{entries_below};
@@ -358,21 +358,6 @@ fn script_in(
     lay_root(out, context, tree, tables, work, root)
 }
 
-// The script of a tree.
-fn script(
-    context: u32,
-    tree: &[u8],
-    tables: Tables<'_>,
-    out: &mut [u8],
-    work: &mut [u64],
-) -> Result<usize, Refusal>
-    ensures gives { Gives (script_of context tree.now (lent tables.entry) out.old work.old) out.old out.new result }
-    ensures work_len_unchanged { length work.new ≡ length work.old }
-{
-    trees::check(context, tree, work)?;
-    script_in(claspwillow::context_of(context), tree, tables, out, work)
-}
-
 // The script of a tree: the number of document 02, the script in `out`, and in `bytes` how many bytes it has, 0 on a refusal. Work memory is zero
 // afterwards.
 pub fn claspwillow_script(
@@ -390,13 +375,19 @@ pub fn claspwillow_script(
         (tables keys.now key_hashes.now hashes32.now hashes20.now)
         out.old work.old result out.new bytes.new work.new }
 {
+    let mut ty = 0;
+    let number = claspwillow::claspwillow_check(context, tree, work, &mut ty);
+    if number != 0 {
+        *bytes = 0;
+        return number;
+    }
     let tables = Tables {
         keys,
         key_hashes,
         hashes32,
         hashes20,
     };
-    let r = script(context, tree, tables, out, work);
+    let r = script_in(claspwillow::context_of(context), tree, tables, out, work);
     words::clear(work);
     match r {
         Ok(n) => {

@@ -1,6 +1,6 @@
 -- `pairing::fits` meets its contract. Assumes nothing.
 use Rattle.pairing.specs.Fits.{fits_from}
-use Rattle.pairing.proofs.Fitting.{fits-above}
+use Rattle.pairing.proofs.Fitting.{fits-above, fits_below}
 use Rattle.pairing.proofs.fits.Goals as goal
 
 pub returns-in-49 : goal.returns-in-49
@@ -27,5 +27,8 @@ pub returns-in-54 : goal.returns-in-54
 unfolding fits_from
 returns-in-54 c = simp (c.in-54.is, c.or_i.ensures, c.is_ok-in-54.ensures.value)
 
-pub returns-in_default : goal.returns-in_default
-returns-in_default c = fits-above c.args.kind c.args.l c.args.r c.in_default.in_default-own.rest
+pub returns-in-0-to-48 : goal.returns-in-0-to-48
+returns-in-0-to-48 c = fits_below c.args.kind c.args.l c.args.r c.in-0-to-48.if-kind-lt49-own.true
+
+pub returns-in-55-to-65535 : goal.returns-in-55-to-65535
+returns-in-55-to-65535 c = fits-above c.args.kind c.args.l c.args.r c.in-55-to-65535.in_default-own.rest
