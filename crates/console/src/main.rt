@@ -24,6 +24,11 @@ fn main(rt: HostRuntime) {
         return;
     };
     let context = asked.context;
+    let form = if matches!(asked.command, Command::Old) {
+        Form::Old
+    } else {
+        Form::New
+    };
     match asked.command {
         Command::Compile => compile_command::compile(&rt, context),
         Command::Size => compile_command::size(&rt, context),
@@ -33,8 +38,8 @@ fn main(rt: HostRuntime) {
         Command::Index => index_command::index_tree(&rt, context),
         Command::At => index_command::find_byte(&rt, context),
         Command::Accept => accept_command::accept(&rt, context),
-        Command::New => move_command::to_form(&rt, Form::New),
-        Command::Old => move_command::to_form(&rt, Form::Old),
+        // One call: with two, its rooms would lie on top of those of this function, and it would need more stack.
+        Command::New | Command::Old => move_command::to_form(&rt, form),
     }
     script_command::write_script(&rt, asked);
 }
