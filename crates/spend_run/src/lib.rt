@@ -33,7 +33,6 @@ pub struct Turn {
 }
 
 // Whether IF would take the branch: the run goes on, and the top element is true.
-#[inline(always)]
 fn takes(log: &[u8], main: &[u64], m: Machine) -> bool
     requires { Fits log.now main.now m }
     ensures { (alt : List ℕ) → result ≡ top_true (run_of log.now main.now alt m) }
@@ -42,7 +41,6 @@ fn takes(log: &[u8], main: &[u64], m: Machine) -> bool
 }
 
 // IF: its element is taken, and one child comes next where it is true, another where it is false.
-#[inline(always)]
 fn branch(
     context: Context,
     log: &[u8],

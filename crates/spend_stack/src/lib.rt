@@ -3,8 +3,6 @@
 // A word takes the log, the memory of the main stack (the memory of both stacks, if it moves an element between them) and the machine, and gives
 // the machine behind it; where the run goes no further it changes nothing. Its contract cites `spend_machine`, specs/Recorded.antt, through
 // specs/Machines.antt, which says what run a machine and its memory stand for; specs/Memory.antt says where the stacks lie.
-//
-// The words are inlined into `spend_run::run_record`, which runs one at nearly every record: as calls of their own they took it a quarter more time.
 #![tactic(auto)]
 
 ghost use Rattle.std.specs.Prelude.{◌≡◌, List, ℕ, ◌+◌, ◌<◌, ◌≤◌, length};
@@ -74,7 +72,6 @@ pub fn put(memory: &mut [u64], i: usize, e: Element)
 }
 
 // Whether a run goes on.
-#[inline(always)]
 pub fn is_going(m: Machine) -> bool
     ensures { result ≡ is_going m }
 {
@@ -82,7 +79,6 @@ pub fn is_going(m: Machine) -> bool
 }
 
 // The same run, standing otherwise.
-#[inline(always)]
 pub fn with_status(m: Machine, status: Status) -> Machine
     ensures { result ≡ with_status m status }
 {
@@ -90,7 +86,6 @@ pub fn with_status(m: Machine, status: Status) -> Machine
 }
 
 // The same run with the lowest n elements of its main stack.
-#[inline(always)]
 pub fn with_main(m: Machine, n: usize) -> Machine
     ensures { result ≡ with_main m n }
 {
@@ -98,7 +93,6 @@ pub fn with_main(m: Machine, n: usize) -> Machine
 }
 
 // The same run with e over the lowest n elements of its main stack, or too large with it.
-#[inline(always)]
 pub fn over(log: &[u8], main: &mut [u64], m: Machine, n: usize, e: Element) -> Machine
     requires { Fits log.now main.old m × (n ≤ m.main) }
     ensures { Over log.now main.old main.new m n e result }
@@ -111,7 +105,6 @@ pub fn over(log: &[u8], main: &mut [u64], m: Machine, n: usize, e: Element) -> M
 }
 
 // Whether a run goes on and has n elements at least; else what becomes of it at a word that takes so many.
-#[inline(always)]
 pub fn ready(m: Machine, n: usize) -> Result<(), Machine>
     ensures { Readied m n result }
 {
@@ -125,7 +118,6 @@ pub fn ready(m: Machine, n: usize) -> Result<(), Machine>
 }
 
 // Pushes an element.
-#[inline(always)]
 pub fn push(log: &[u8], main: &mut [u64], m: Machine, e: Element) -> Machine
     requires { Fits log.now main.old m }
     ensures { Pushes log.now main.old main.new m e result }
@@ -137,7 +129,6 @@ pub fn push(log: &[u8], main: &mut [u64], m: Machine, e: Element) -> Machine
 }
 
 // DUP.
-#[inline(always)]
 pub fn dup(log: &[u8], main: &mut [u64], m: Machine) -> Machine
     requires { Fits log.now main.old m }
     ensures { Does DUP log.now main.old main.new m result }
@@ -149,7 +140,6 @@ pub fn dup(log: &[u8], main: &mut [u64], m: Machine) -> Machine
 }
 
 // IFDUP.
-#[inline(always)]
 pub fn if_dup(log: &[u8], main: &mut [u64], m: Machine) -> Machine
     requires { Fits log.now main.old m }
     ensures { Does IFDUP log.now main.old main.new m result }
@@ -167,7 +157,6 @@ pub fn if_dup(log: &[u8], main: &mut [u64], m: Machine) -> Machine
 }
 
 // SIZE.
-#[inline(always)]
 pub fn size(log: &[u8], main: &mut [u64], m: Machine) -> Machine
     requires { Fits log.now main.old m }
     ensures { Does SIZE log.now main.old main.new m result }
@@ -183,7 +172,6 @@ pub fn size(log: &[u8], main: &mut [u64], m: Machine) -> Machine
 }
 
 // SWAP.
-#[inline(always)]
 pub fn swap(log: &[u8], main: &mut [u64], m: Machine) -> Machine
     requires { Fits log.now main.old m }
     ensures { Does SWAP log.now main.old main.new m result }
@@ -201,7 +189,6 @@ pub fn swap(log: &[u8], main: &mut [u64], m: Machine) -> Machine
 }
 
 // TOALTSTACK.
-#[inline(always)]
 pub fn to_alt(log: &[u8], work: &mut [u64], m: Machine) -> Machine
     requires { Fits log.now (main_in work.old) m × (length work.old ≡ work_words) }
     ensures does_both { DoesBoth TOALTSTACK log.now (main_in work.old) (alt_in work.old)
@@ -223,7 +210,6 @@ pub fn to_alt(log: &[u8], work: &mut [u64], m: Machine) -> Machine
 }
 
 // FROMALTSTACK.
-#[inline(always)]
 pub fn from_alt(log: &[u8], work: &mut [u64], m: Machine) -> Machine
     requires { Fits log.now (main_in work.old) m × (length work.old ≡ work_words) }
     ensures does_both { DoesBoth FROMALTSTACK log.now (main_in work.old) (alt_in work.old)
@@ -247,7 +233,6 @@ pub fn from_alt(log: &[u8], work: &mut [u64], m: Machine) -> Machine
 }
 
 // VERIFY.
-#[inline(always)]
 pub fn verify(log: &[u8], main: &mut [u64], m: Machine) -> Machine
     requires { Fits log.now main.old m }
     ensures { Does VERIFY log.now main.old main.new m result }
@@ -264,7 +249,6 @@ pub fn verify(log: &[u8], main: &mut [u64], m: Machine) -> Machine
 }
 
 // EQUAL.
-#[inline(always)]
 pub fn equal(log: &[u8], main: &mut [u64], m: Machine) -> Machine
     requires { Fits log.now main.old m }
     ensures { Does EQUAL log.now main.old main.new m result }
@@ -281,7 +265,6 @@ pub fn equal(log: &[u8], main: &mut [u64], m: Machine) -> Machine
 }
 
 // 0NOTEQUAL.
-#[inline(always)]
 pub fn zero_not_equal(log: &[u8], main: &mut [u64], m: Machine) -> Machine
     requires { Fits log.now main.old m }
     ensures { Does 0NOTEQUAL log.now main.old main.new m result }
@@ -299,7 +282,6 @@ pub fn zero_not_equal(log: &[u8], main: &mut [u64], m: Machine) -> Machine
 }
 
 // What NUMEQUAL, BOOLAND, BOOLOR and ADD push.
-#[inline(always)]
 fn combined(pair: Pair, x: Number, y: Number) -> Element
     requires { (x.size < 2147483648) × (y.size < 2147483648) }
     ensures { (log : List ℕ) → bytes_in log result ≡ combine pair (value_in x) (value_in y) }
@@ -317,7 +299,6 @@ fn combined(pair: Pair, x: Number, y: Number) -> Element
 }
 
 // NUMEQUAL, BOOLAND, BOOLOR or ADD.
-#[inline(always)]
 pub fn two_numbers(pair: Pair, log: &[u8], main: &mut [u64], m: Machine) -> Machine
     requires { Fits log.now main.old m }
     ensures { Does (word_of pair) log.now main.old main.new m result }
@@ -337,7 +318,6 @@ pub fn two_numbers(pair: Pair, log: &[u8], main: &mut [u64], m: Machine) -> Mach
 }
 
 // Whether IF would take the top element for true; false where there is none.
-#[inline(always)]
 pub fn top_true(log: &[u8], main: &[u64], m: Machine) -> bool
     requires { Fits log.now main.now m }
     ensures { result ≡ top_true (stack_of log.now main.now m.main) }
@@ -350,7 +330,6 @@ pub fn top_true(log: &[u8], main: &[u64], m: Machine) -> bool
 }
 
 // IF and NOTIF take the top element, if they may.
-#[inline(always)]
 pub fn open(context: Context, log: &[u8], main: &[u64], m: Machine) -> Machine
     requires { Fits log.now main.now m }
     ensures { Opens context log.now main.now m result }
